@@ -1,0 +1,220 @@
+// Runs the stored tables of the standard input through `rows::check` and compares each answer with the stored one.
+// The input's head comment describes its form. A table that differs has a line of its own; the last line counts both.
+mod input;
+mod table;
+
+use rows::Checked;
+use rows::Limits;
+use table::Built;
+ghost use mathlib.Core.Path.{_≡_};
+ghost use Prim.Native.Nat.{_≤_, _<_};
+ghost use Rattle.io.specs.Counts.{Counts};
+
+// An answer: the refusal's number, its place, and the fault's class where the number is 2.
+struct Answer {
+    number: u64,
+    place: u64,
+    class: u64,
+}
+
+impl Answer {
+    fn same(self, other: Answer) -> bool {
+        (self.number == other.number) & (self.place == other.place) & (self.class == other.class)
+    }
+
+    fn print(self) {
+        io::print_decimal(1, self.number);
+        io::write_all(1, b" ");
+        io::print_decimal(1, self.place);
+        io::write_all(1, b" ");
+        io::print_decimal(1, self.class);
+    }
+}
+
+fn class_of(c: Checked) -> u32 {
+    match c {
+        Checked::BadRow { class, row: _ } => class,
+        _ => 0,
+    }
+}
+
+fn answer_of(c: Checked) -> Answer {
+    Answer {
+        number: c.number() as u64,
+        place: c.place() as u64,
+        class: class_of(c) as u64,
+    }
+}
+
+// The stored answer, three words from `at` on.
+fn stored(words: &[u32], at: usize) -> Answer
+    requires { ⌜ at < 1099511627776 ⌝ }
+{
+    Answer {
+        number: input::word(words, at) as u64,
+        place: input::word(words, at + 1) as u64,
+        class: input::word(words, at + 2) as u64,
+    }
+}
+
+fn least(a: usize, b: usize) -> usize
+    ensures { λ r. ⌜ r ≤ b ⌝ }
+{
+    if a < b { a } else { b }
+}
+
+// n, and no more than the length of s.
+fn within(n: usize, s: &[u8]) -> usize
+    ensures { λ r. ⌜ Counts r (now (s .entry)) ⌝ }
+{
+    io::count(least(n, 1000000) as isize, s)
+}
+
+// What the check answers for the bytes that were built.
+fn run(table: &[u8], pairs: &[u8], text: &[u8], b: Built, limits: Limits) -> Answer {
+    let t = within(b.table, table);
+    let p = within(b.pairs, pairs);
+    let x = within(b.text, text);
+    answer_of(rows::check(&table[..t], &pairs[..p], &text[..x], limits))
+}
+
+fn print_case(n: usize) {
+    io::write_all(1, b"case ");
+    io::print_decimal(1, n as u64);
+    io::write_all(1, b": ");
+}
+
+fn print_difference(n: usize, got: Answer, want: Answer) {
+    print_case(n);
+    io::write_all(1, b"got ");
+    got.print();
+    io::write_all(1, b", want ");
+    want.print();
+    io::write_all(1, b"\n");
+}
+
+// 1 where the answers differ, which prints both, else 0.
+fn compared(n: usize, got: Answer, want: Answer) -> usize
+    ensures { λ r. ⌜ r ≤ 1 ⌝ }
+{
+    if got.same(want) {
+        return 0;
+    }
+    print_difference(n, got, want);
+    1
+}
+
+// 1 where a table's answer is not the stored one, else 0; and the word after the table.
+struct Turn {
+    differ: usize,
+    at: usize,
+}
+
+// Data that cannot be read counts as a difference and ends the run, as no later table can be found.
+fn bad_data(n: usize, count: usize) -> Turn
+    ensures { λ r. ⌜ (r .differ ≤ 1) × (r .at ≡ count) ⌝ }
+{
+    print_case(n);
+    io::write_all(1, b"bad data\n");
+    Turn {
+        differ: 1,
+        at: count,
+    }
+}
+
+// Table n, whose words start at `from`.
+fn run_case(
+    words: &[u32],
+    count: usize,
+    from: usize,
+    n: usize,
+    table: &mut [u8],
+    pairs: &mut [u8],
+    text: &mut [u8],
+) -> Turn
+    requires { ⌜ (from < count) × (count ≤ 65536) ⌝ }
+    ensures { λ r. ⌜ (r .differ ≤ 1) × (from < r .at) × (r .at ≤ count) ⌝ }
+{
+    let b = table::build(words, from + 3, table, pairs, text);
+    let at = b.at;
+    let head = input::word(words, from) as usize;
+    if count < at + 3 {
+        return bad_data(n, count);
+    }
+    if !b.good | (head != n) {
+        return bad_data(n, count);
+    }
+    let limits = Limits {
+        rows: input::word(words, from + 1) as usize,
+        depth: input::word(words, from + 2) as usize,
+    };
+    let want = stored(words, at);
+    let got = run(table, pairs, text, b, limits);
+    Turn {
+        differ: compared(n, got, want),
+        at: at + 3,
+    }
+}
+
+// How many tables there are, and how many of them differ.
+struct Tally {
+    tables: usize,
+    differ: usize,
+}
+
+fn replay(words: &[u32], count: usize) -> Tally
+    requires { ⌜ count ≤ 65536 ⌝ }
+    ensures { λ r. ⌜ (r .tables ≤ 65536) × (r .differ ≤ 65536) ⌝ }
+{
+    let mut table = table::row_room();
+    let mut pairs = table::pair_room();
+    let mut text = table::text_room();
+    let mut at: usize = 0;
+    let mut tables: usize = 0;
+    let mut differ: usize = 0;
+    while at < count {
+        let t = run_case(
+            words,
+            count,
+            at,
+            tables + 1,
+            &mut table,
+            &mut pairs,
+            &mut text,
+        );
+        tables += 1;
+        differ += t.differ;
+        at = t.at;
+    }
+    Tally { tables, differ }
+}
+
+fn print_tally(t: Tally) {
+    io::print_decimal(1, t.tables as u64);
+    io::write_all(1, b" tables, ");
+    io::print_decimal(1, t.differ as u64);
+    io::write_all(1, b" differ\n");
+}
+
+// Input that is too long or has a byte out of place counts as a difference.
+fn whole(t: Tally, good: bool) -> Tally
+    requires { ⌜ t .differ ≤ 65536 ⌝ }
+{
+    if good {
+        return t;
+    }
+    io::write_all(1, b"bad input\n");
+    Tally {
+        tables: t.tables,
+        differ: t.differ + 1,
+    }
+}
+
+fn main() {
+    let mut data = input::byte_room();
+    let mut words = input::word_room();
+    let n = io::read_full(0, &mut data);
+    let r = input::numbers(&data[..n], &mut words);
+    let t = replay(&words, r.count);
+    print_tally(whole(t, r.good & (n < 524288)));
+}

@@ -1,0 +1,64 @@
+-- `rows::depth::tell` meets its contract. Assumes nothing.
+use Prim.Native.Nat.{ℕ, _-_, _+_, _*_, _/_, _<_, _≤_}
+use mathlib.Core.Path.{_≡_, refl, sym, ap, subst, _∙_}
+use borrow.Author.Tests.{ltb-true}
+use Rattle.rows.specs.Words.{words}
+use Rattle.rows.specs.Told.{toAll}
+use Rattle.rows.proofs.Bools.{and-left}
+use Rattle.rows.proofs.Telling.{Telling, tell-start, tell-next, tell-last, tell-done}
+use native.Mathlib.Omega.{arith}
+use Rattle.rows.proofs.depth.tell.Statement.{statement}
+use Rattle.rows.proofs.depth.tell.Tie as tie
+
+abbrev Inv-loop : tie.InvT-loop
+Inv-loop s depth₀ d c0 e c₀ depth c = (pos : ℕ) × Telling (words s) (toAll d) e 16384 c0 depth₀ depth c pos
+
+abbrev μ-loop : tie.MeasureT-loop
+μ-loop s depth₀ d c0 e c₀ depth c = e - c
+
+loop-holds : tie.Need-loop-holds Inv-loop μ-loop
+loop-holds c = (0, tell-start _ _ _ _ _ _ (c .before .pre .1 .1))
+
+mul-cell : tie.Need-mul-cell Inv-loop μ-loop
+mul-cell c = omega arith
+
+add-cell : tie.Need-add-cell Inv-loop μ-loop
+add-cell c = omega arith
+
+cell-requires : tie.Need-cell-requires Inv-loop μ-loop
+cell-requires c κs = omega arith
+
+mul-depth : tie.Need-mul-depth Inv-loop μ-loop
+mul-depth c = omega arith
+
+element-write-depth : tie.Need-element-write-depth Inv-loop μ-loop
+element-write-depth c = omega arith
+
+loop-less : tie.Need-loop-less Inv-loop μ-loop
+loop-less c = let past : c .before .before .before .loop .c < c .before .cell .result = ltb-true _ _ (and-left _ _ (c .if1 .taken)) in omega arith
+
+loop-again : tie.Need-loop-again Inv-loop μ-loop
+loop-again c = let at = c .before .before .before in (at .loop .inv .0 + 1, tell-next _ _ _ _ _ _ _ _ _ (at .loop .inv .1) (c .before .before .loop-test .taken) (at .before .before .pre .0) _ refl _ (c .before .cell .ensures .0) (c .if1 .taken))
+
+returns : tie.Need-returns Inv-loop μ-loop
+returns c = let at = c .before .before .before in let t = tell-last _ _ _ _ _ _ _ _ _ (at .loop .inv .1) (c .before .before .loop-test .taken) (at .before .before .pre .0) _ refl _ (c .before .cell .ensures .0) (c .if1 .left) in (t .long, t .each)
+
+returns-2 : tie.Need-returns-2 Inv-loop μ-loop
+returns-2 c = let t = tell-done _ _ _ _ _ _ _ _ _ (c .before .loop .inv .1) (c .loop-test .left) in (t .long, t .each)
+
+pub tell-spec : {M : Type 1} → statement M
+tell-spec =
+    tie.close
+    (tie.spec
+    Inv-loop
+    μ-loop
+    loop-holds
+    mul-cell
+    add-cell
+    cell-requires
+    mul-depth
+    element-write-depth
+    loop-less
+    loop-again
+    returns
+    returns-2)

@@ -1,0 +1,12 @@
+pub mod Kinds
+pub mod Words
+pub mod Utf8
+pub mod First
+pub mod Names
+pub mod Grammar
+pub mod Forest
+pub mod Faults
+pub mod Nested
+pub mod Told
+pub mod Refusals
+pub mod Sound

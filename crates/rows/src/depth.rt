@@ -1,0 +1,47 @@
+// Refusal 3: depth.
+use crate::Found;
+use crate::words::cell;
+ghost use mathlib.Core.Path.{_≡_};
+ghost use Prim.Native.Nat.{ℕ, _+_, _*_, _<_, _≤_};
+ghost use lib.ListN.{length, getD};
+ghost use Rattle.rows.specs.Words.{words, endAt};
+ghost use Rattle.rows.specs.Faults.{kids};
+ghost use Rattle.rows.specs.Told.{toAll, toldIn, firstDeep};
+
+// Tells d to the rows side by side from c0 up to e.
+fn tell(s: &[u8], depth: &mut [u16; 16384], d: u16, c0: usize, e: usize)
+    requires { ⌜ (e ≤ 16384) × ((16 * e ≤ length (now s)) × (length (now depth) ≡ 16384)) ⌝ }
+    ensures { λ r. ⌜ (length (now (depth .exit)) ≡ 16384)
+        × ((j : ℕ) → getD (now (depth .exit)) j 0 ≡ toldIn (toAll d) 0 (kids (words (now (s .entry))) e c0 e) j (getD (now (depth .entry)) j 0)) ⌝ }
+{
+    let mut c = c0;
+    while c < e {
+        let x = cell(s, 4 * c + 3);
+        depth[c] = d;
+        if (c < x) & (x <= e) {
+            c = x;
+        } else {
+            return;
+        }
+    }
+}
+
+// The first row whose depth is over `most`, in a table whose rows end within it.
+pub fn first_deep(s: &[u8], n: usize, most: u16) -> Found
+    requires { ⌜ (n ≤ 16384) × ((16 * n ≤ length (now s)) × ((i : ℕ) → i < n → endAt (words (now s)) i ≤ n)) ⌝ }
+    requires { ⌜ most ≤ 16384 ⌝ }
+    ensures { λ r. ⌜ r ≡ firstDeep (words (now (s .entry))) most n ⌝ }
+{
+    let mut depth = [0u16; 16384];
+    let mut i: usize = 0;
+    while i < n {
+        let e = cell(s, 4 * i + 3);
+        let d = depth[i];
+        if most < d {
+            return Found::At(i);
+        }
+        tell(s, &mut depth, d + 1, i + 1, e);
+        i += 1;
+    }
+    Found::Nothing
+}

@@ -1,0 +1,125 @@
+// The table of rows: reading words, names and UTF-8, the grammar of the 28 kinds, and the refusals
+// 1, 4, 2, 3 and 5 in that order. Everything that decides whether bytes are a table at all.
+pub mod depth;
+pub mod faults;
+pub mod grammar;
+pub mod kinds;
+pub mod made;
+pub mod names;
+pub mod utf8;
+pub mod words;
+
+ghost use mathlib.Core.Path.{_≡_};
+ghost use mathlib.Core.Bool.{Bool};
+ghost use Prim.Native.Nat.{ℕ, _≤_};
+ghost use Rattle.rows.specs.Refusals.{numberOf, placeFor, limited, sizesOk, checked};
+
+// The lowest number of which a test holds, where there is one.
+pub enum Found {
+    At(usize),
+    Nothing,
+}
+
+// The lowest row that has a fault, with its class: 1 kind, 2 attr, 3 end, 4 place or number of
+// children, 5 name.
+pub enum RowFault {
+    Fine,
+    Bad { class: u32, row: usize },
+}
+
+// How large a table may be. A limit over 16,384 counts as 16,384.
+pub struct Limits {
+    pub rows: usize,
+    pub depth: usize,
+}
+
+// What the checks of this layer say of a table.
+pub enum Checked {
+    Sound,
+    Malformed,
+    BadName { name: usize },
+    BadRow { class: u32, row: usize },
+    TooDeep { row: usize },
+    MadeBinding { row: usize },
+}
+
+impl Checked {
+    // Document 01's number of the answer.
+    pub fn number(self) -> u32
+        ensures { λ r. ⌜ r ≡ numberOf self ⌝ }
+    {
+        match self {
+            Checked::Sound => 0,
+            Checked::Malformed => 1,
+            Checked::BadRow { class: _, row: _ } => 2,
+            Checked::TooDeep { row: _ } => 3,
+            Checked::BadName { name: _ } => 4,
+            Checked::MadeBinding { row: _ } => 5,
+        }
+    }
+
+    // Its place: 0, the number of a name from 1, or a row.
+    pub fn place(self) -> usize
+        ensures { λ r. ⌜ r ≡ placeFor self ⌝ }
+    {
+        match self {
+            Checked::Sound => 0,
+            Checked::Malformed => 0,
+            Checked::BadRow { class: _, row } => row,
+            Checked::TooDeep { row } => row,
+            Checked::BadName { name } => name,
+            Checked::MadeBinding { row } => row,
+        }
+    }
+}
+
+fn capped(limit: usize) -> usize
+    ensures { λ r. ⌜ (r ≡ limited limit) × (r ≤ 16384) ⌝ }
+{
+    if limit < 16384 {
+        return limit;
+    }
+    16384
+}
+
+fn sizes_ok(most: usize, rows: usize, names: usize, text: usize) -> bool
+    requires { ⌜ most ≤ 16384 ⌝ }
+    ensures { λ o. ⌜ o ≡ sizesOk most rows names text ⌝ }
+{
+    (rows % 16 == 0)
+        & (0 < rows)
+        & (rows <= 16 * most)
+        & (names % 8 == 0)
+        & (names <= 32768)
+        & (text <= 65535)
+}
+
+// Whether these bytes are a table: the rows, the pairs of the names and the text that they are
+// over. Refusals 1, 4, 2, 3 and 5, each over the whole table before the next.
+pub fn check(rows: &[u8], names: &[u8], text: &[u8], limits: Limits) -> Checked
+    ensures { λ r. ⌜ r ≡ checked (limits .rows) (limits .depth) (now (rows .entry)) (now (names .entry)) (now (text .entry)) ⌝ }
+{
+    let most = capped(limits.rows);
+    let deepest = capped(limits.depth);
+    if !sizes_ok(most, rows.len(), names.len(), text.len()) {
+        return Checked::Malformed;
+    }
+    let n = rows.len() / 16;
+    let named = names::first_bad_name(names, text);
+    if let Found::At(name) = named {
+        return Checked::BadName { name };
+    }
+    let fault = faults::first_fault(rows, n, names.len() / 8);
+    if let RowFault::Bad { class, row } = fault {
+        return Checked::BadRow { class, row };
+    }
+    let deep = depth::first_deep(rows, n, deepest as u16);
+    if let Found::At(row) = deep {
+        return Checked::TooDeep { row };
+    }
+    let made = made::first_made(rows, n);
+    if let Found::At(row) = made {
+        return Checked::MadeBinding { row };
+    }
+    Checked::Sound
+}
