@@ -44,15 +44,15 @@ good-row ws names place i h =
     rw (and-left (kindOk k) _ r2, and-right (kindOk k) _ r2, fc, and-right (kindOk k && attrOk k a place && fits place k && countOk k a cnt) _ h)
 
 -- the row at c, what is inside it and what stands after it, where the words from c on are those of a node
-record Fields (ws : List ℕ) (k a n : ℕ) (i s : Rows) (c e : ℕ) : Type 0 where
-  fk : kindAt ws c ≡ k
-  fa : attrAt ws c ≡ a
-  fn : nameAt ws c ≡ n
-  fe : endAt ws c ≡ c + 1 + size i
-  fi : flat (c + 1) i ≡ slice (4 * (c + 1)) (4 * endAt ws c) ws
-  fs : flat (endAt ws c) s ≡ slice (4 * endAt ws c) (4 * e) ws
+pub record Fields (ws : List ℕ) (k a n : ℕ) (i s : Rows) (c e : ℕ) : Type 0 where
+  pub fk : kindAt ws c ≡ k
+  pub fa : attrAt ws c ≡ a
+  pub fn : nameAt ws c ≡ n
+  pub fe : endAt ws c ≡ c + 1 + size i
+  pub fi : flat (c + 1) i ≡ slice (4 * (c + 1)) (4 * endAt ws c) ws
+  pub fs : flat (endAt ws c) s ≡ slice (4 * endAt ws c) (4 * e) ws
 
-fields : (ws : List ℕ) (k a n : ℕ) (i s : Rows) (c e : ℕ) → c + size (node k a n i s) ≡ e → 4 * e ≤ length ws → flat c (node k a n i s) ≡ slice (4 * c) (4 * e) ws → Fields ws k a n i s c e
+pub fields : (ws : List ℕ) (k a n : ℕ) (i s : Rows) (c e : ℕ) → c + size (node k a n i s) ≡ e → 4 * e ≤ length ws → flat c (node k a n i s) ≡ slice (4 * c) (4 * e) ws → Fields ws k a n i s c e
 unfolding flat size
 fields ws k a n i s c e q long h =
     let m = c + 1 + size i in

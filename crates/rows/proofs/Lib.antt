@@ -17,3 +17,4 @@ pub mod Levels
 pub mod Ordering
 pub mod Soundness
 pub mod Answers
+pub mod ReadBack

@@ -1,0 +1,46 @@
+-- Tables as the sheet has them: a line a row, and what is answered for them. Assumes nothing.
+use mathlib.Core.Path.{_≡_}
+use mathlib.Core.List.{List, [], _∷_, _++_}
+use Prim.Native.Nat.{ℕ, _+_, _/_, _%_}
+use lib.ListN.{length}
+use Rattle.steps.specs.Mode.{Switches}
+use Rattle.steps.specs.Outcome.{Outcome, Room, outcome}
+
+-- kind attr name end
+pub data Line : Type 0 where
+  row : (kind attr name end : ℕ) → Line
+
+-- the words of some lines
+unfoldable pub sheet : List Line → List ℕ
+sheet [] = []
+sheet (row k a n e ∷ ls) = k ∷ a ∷ n ∷ e ∷ sheet ls
+
+-- the bytes of some words, low byte first
+unfoldable pub bytes : List ℕ → List ℕ
+bytes [] = []
+bytes (x ∷ xs) = x % 256 ∷ x / 256 % 256 ∷ x / 65536 % 256 ∷ x / 16777216 ∷ bytes xs
+
+-- names laid end to end from byte `at` on: their pairs, and the text
+unfoldable pub pairs : (at : ℕ) → List (List ℕ) → List ℕ
+pairs at [] = []
+pairs at (n ∷ ns) = at ∷ length n ∷ pairs (at + length n) ns
+
+unfoldable pub joined : List (List ℕ) → List ℕ
+joined [] = []
+joined (n ∷ ns) = n ++ joined ns
+
+abbrev pub room : (rows bindings : ℕ) → Room
+room rows bindings = record { rows = rows; bindings = bindings }
+
+-- a table, what is lent, and what is answered
+pub record Plot : Type 0 where
+  pub chosen : Switches
+  pub names : List (List ℕ)
+  pub table : List Line
+  pub lent : Room
+  pub answer : Outcome
+
+-- every plot of a list is answered as it says, at the limits 16,384 and 128
+abbrev pub Held : List Plot → Type 0
+Held [] = Unit {0}
+Held (p ∷ ps) = (outcome 16384 128 (p .chosen) (bytes (sheet (p .table))) (bytes (pairs 0 (p .names))) (joined (p .names)) (p .lent) ≡ p .answer) × Held ps
