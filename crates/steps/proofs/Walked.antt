@@ -1,4 +1,4 @@
--- The plots and the further tables, computed. Assumes nothing.
+-- The plots, the further tables and those of docs/DIFFERENCES.md, computed. Assumes nothing.
 use mathlib.Core.Path.{refl}
 use Rattle.rows.specs.Words.{words}
 use Rattle.rows.specs.Utf8.{seqOf, utf8From, utf8}
@@ -27,6 +27,7 @@ use Rattle.steps.specs.Outcome.{records, within, outcome}
 use Rattle.steps.specs.Tables.{sheet, bytes, pairs, joined}
 use Rattle.steps.specs.Plots.{starred}
 use Rattle.steps.specs.Pins.{pins}
+use Rattle.steps.specs.Differences.{differences}
 use Rattle.steps.specs.Tables.{Held}
 
 -- the ten starred plots, by one statement over their list
@@ -38,3 +39,8 @@ starred-held = (refl, (refl, (refl, (refl, (refl, (refl, (refl, (refl, (refl, (r
 pub pins-held : Held pins
 unfolding words seqOf utf8From utf8 first bytesOf sameBytes sameName argumentsBytes isArguments badName firstBadName placeInClass placeInFunction placeOf size flat tree rowsAt kids kidsOf earlyFault lateFault faultOf faultFrom firstFault toldIn toldBy depthAt firstDeep firstMade checked bit enabled asyncOnly movedFunction movedArrow captured thisFrame superYes superFrame firstSuper firstAccess firstName firstInside argumentsYes argumentsFrame dress sameAs namedArguments kindOf actOf act is numberFrom number note closes paramsOf closed meet leave superCall isDirect isMet scanInner scanNext assignment afterSuper argumentsDecl thisDecl headN tailN paramNumbers accessRow accessor accessorDecls varFirst frameTop top join leaves late actAt collect build emit made steps seek allows sixes holds pastFirst valueOf sevens eights six seven eight records within outcome sheet bytes pairs joined starred pins
 pins-held = (refl, (refl, (refl, (refl, (refl, (refl, (refl, (refl, (refl, (refl, (refl, (refl, (refl, (refl, (refl, (refl, (refl, (refl, (refl, tt)))))))))))))))))))
+
+-- the tables of docs/DIFFERENCES.md
+pub differences-held : Held differences
+unfolding words seqOf utf8From utf8 first bytesOf sameBytes sameName argumentsBytes isArguments badName firstBadName placeInClass placeInFunction placeOf size flat tree rowsAt kids kidsOf earlyFault lateFault faultOf faultFrom firstFault toldIn toldBy depthAt firstDeep firstMade checked bit enabled asyncOnly movedFunction movedArrow captured thisFrame superYes superFrame firstSuper firstAccess firstName firstInside argumentsYes argumentsFrame dress sameAs namedArguments kindOf actOf act is numberFrom number note closes paramsOf closed meet leave superCall isDirect isMet scanInner scanNext assignment afterSuper argumentsDecl thisDecl headN tailN paramNumbers accessRow accessor accessorDecls varFirst frameTop top join leaves late actAt collect build emit made steps seek allows sixes holds pastFirst valueOf sevens eights six seven eight records within outcome sheet bytes pairs joined differences
+differences-held = (refl, (refl, (refl, (refl, (refl, (refl, (refl, (refl, (refl, (refl, (refl, (refl, (refl, (refl, (refl, (refl, (refl, (refl, (refl, (refl, (refl, (refl, (refl, (refl, (refl, (refl, (refl, (refl, (refl, (refl, (refl, (refl, (refl, (refl, (refl, (refl, (refl, tt)))))))))))))))))))))))))))))))))))))
