@@ -8,7 +8,7 @@ use borrow.Author.Tests.{ltb-true, leb-true, eqb-true, lt-ltb, le-leb, eq-eqb}
 use lib.ListN.{length}
 use lib.Dec.{eqb, ltb, leb}
 use Rattle.rows.specs.Words.{words, endAt, rowsIn, namesIn}
-use Rattle.rows.specs.Names.{firstBadName}
+use Rattle.rows.specs.Names.{namesFit, firstBadName}
 use Rattle.rows.specs.Faults.{firstFault}
 use Rattle.rows.specs.Told.{firstDeep}
 use Rattle.rows.specs.Sound.{GoodSizes}
@@ -21,6 +21,21 @@ use Rattle.rows.specs.declared.Checked.the-variants.{Sound, Malformed}
 use Rattle.rows.proofs.Bools.{and-left, and-right, and-both}
 use Rattle.rows.proofs.Accepting.{none-faulty}
 use Rattle.rows.proofs.Descent.{first-lowest}
+
+-- what 1 leaves of names and text, of so many bytes
+pub record NameSizes (names text : ℕ) : Type 0 where
+  pub whole : names % 8 ≡ 0
+  pub few : names ≤ 32768
+  pub short : text ≤ 65535
+
+pub name-sizes : (names text : ℕ) → namesFit names text ≡ true → NameSizes names text
+name-sizes names text h =
+    let h2 = and-left (eqb (names % 8) 0 && leb names 32768) _ h in
+    record {
+      whole = eqb-true _ _ (and-left (eqb (names % 8) 0) _ h2);
+      few = leb-true _ _ (and-right (eqb (names % 8) 0) _ h2);
+      short = leb-true _ _ (and-right (eqb (names % 8) 0 && leb names 32768) _ h);
+    }
 
 module _ (rowLimit depthLimit : ℕ) (rows names text : List ℕ) where
   abbrev pub SizesOk : Bool → Type 0
@@ -39,22 +54,21 @@ module _ (rowLimit depthLimit : ℕ) (rows names text : List ℕ) where
 
   pub good-sizes : SizesOk true → GoodSizes rowLimit rows names text
   good-sizes h =
-      let h5 = and-left (eqb (length rows % 16) 0 && ltb 0 (length rows) && leb (length rows) (16 * limited rowLimit) && eqb (length names % 8) 0 && leb (length names) 32768) _ h in
-      let h4 = and-left (eqb (length rows % 16) 0 && ltb 0 (length rows) && leb (length rows) (16 * limited rowLimit) && eqb (length names % 8) 0) _ h5 in
-      let h3 = and-left (eqb (length rows % 16) 0 && ltb 0 (length rows) && leb (length rows) (16 * limited rowLimit)) _ h4 in
+      let h3 = and-left (eqb (length rows % 16) 0 && ltb 0 (length rows) && leb (length rows) (16 * limited rowLimit)) _ h in
+      let n = name-sizes (length names) (length text) (and-right (eqb (length rows % 16) 0 && ltb 0 (length rows) && leb (length rows) (16 * limited rowLimit)) _ h) in
       let h2 = and-left (eqb (length rows % 16) 0 && ltb 0 (length rows)) _ h3 in
       let rowWords : length rows % 16 ≡ 0 = eqb-true _ _ (and-left (eqb (length rows % 16) 0) _ h2) in
       let some : 0 < length rows = ltb-true _ _ (and-right (eqb (length rows % 16) 0) _ h2) in
       let few : length rows ≤ 16 * limited rowLimit = leb-true _ _ (and-right (eqb (length rows % 16) 0 && ltb 0 (length rows)) _ h3) in
-      let nameWords : length names % 8 ≡ 0 = eqb-true _ _ (and-right (eqb (length rows % 16) 0 && ltb 0 (length rows) && leb (length rows) (16 * limited rowLimit)) _ h4) in
-      let fewNames : length names ≤ 32768 = leb-true _ _ (and-right (eqb (length rows % 16) 0 && ltb 0 (length rows) && leb (length rows) (16 * limited rowLimit) && eqb (length names % 8) 0) _ h5) in
+      let nameWords = n .whole in
+      let fewNames = n .few in
       record {
         rowBytes = omega arith;
         some = omega arith;
         few = omega arith;
         nameBytes = omega arith;
         fewNames = omega arith;
-        short = leb-true _ _ (and-right (eqb (length rows % 16) 0 && ltb 0 (length rows) && leb (length rows) (16 * limited rowLimit) && eqb (length names % 8) 0 && leb (length names) 32768) _ h);
+        short = n .short;
       }
 
   pub sizes-good : GoodSizes rowLimit rows names text → SizesOk true
@@ -65,12 +79,8 @@ module _ (rowLimit depthLimit : ℕ) (rows names text : List ℕ) where
       let d = g .nameBytes in
       let e = g .fewNames in
       and-both
-      (and-both
-      (and-both
       (and-both (and-both (eq-eqb (length rows % 16) 0 (omega arith)) (lt-ltb 0 (length rows) (omega arith))) (le-leb (length rows) (16 * limited rowLimit) (omega arith)))
-      (eq-eqb (length names % 8) 0 (omega arith)))
-      (le-leb (length names) 32768 (omega arith)))
-      (le-leb (length text) 65535 (g .short))
+      (and-both (and-both (eq-eqb (length names % 8) 0 (omega arith)) (le-leb (length names) 32768 (omega arith))) (le-leb (length text) 65535 (g .short)))
 
 -- the depth's limit as the code has it
 pub deep-at : (ws : List ℕ) (limit n : ℕ) (r : Found) {most : ℕ} → most ≡ limited limit → r ≡ firstDeep ws most n → r ≡ firstDeep ws (limited limit) n

@@ -1,5 +1,5 @@
 -- "A name is 1.. into pairs (start, length) over a UTF-8 text, 0 for none. Names are compared by bytes." Assumes nothing.
-use Prim.Native.Nat.{ℕ, _+_, _*_, _-_}
+use Prim.Native.Nat.{ℕ, _+_, _*_, _-_, _%_}
 use mathlib.Core.Bool.{Bool, true, false, cond, _||_, _&&_, not}
 use mathlib.Core.List.{List, [], _∷_}
 use lib.ListN.{getD, length, take, drop}
@@ -36,6 +36,10 @@ argumentsBytes = 0x61 ∷ 0x72 ∷ 0x67 ∷ 0x75 ∷ 0x6D ∷ 0x65 ∷ 0x6E ∷ 
 
 unfoldable pub isArguments : (names text : List ℕ) (k : ℕ) → Bool
 isArguments names text k = sameBytes (bytesOf names text k) argumentsBytes
+
+-- not 1, as far as it speaks of names and text: "name words odd; names over 4,096; text over 65,535 bytes". The arguments are lengths in bytes.
+abbrev pub namesFit : (names text : ℕ) → Bool
+namesFit names text = eqb (names % 8) 0 && leb names 32768 && leb text 65535
 
 -- refusal 4: "out of the text, length 0 or over 255, not UTF-8"
 unfoldable pub badName : (names text : List ℕ) (k : ℕ) → Bool

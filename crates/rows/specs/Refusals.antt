@@ -7,7 +7,7 @@ use lib.ListN.{length}
 use lib.Dec.{eqb, ltb, leb}
 use Rattle.rows.specs.Words.{words, kindAt, attrAt, rowsIn, namesIn}
 use Rattle.rows.specs.First.{first}
-use Rattle.rows.specs.Names.{firstBadName}
+use Rattle.rows.specs.Names.{namesFit, firstBadName}
 use Rattle.rows.specs.Grammar.{madeRow}
 use Rattle.rows.specs.Faults.{firstFault}
 use Rattle.rows.specs.Told.{firstDeep}
@@ -45,7 +45,7 @@ limited limit = min limit mostRows
 
 -- not 1: "row words not a multiple of 4; rows 0 or over 16,384; name words odd; names over 4,096; text over 65,535 bytes". The arguments are the limit of rows and three lengths in bytes.
 abbrev pub sizesOk : (most rows names text : ℕ) → Bool
-sizesOk most rows names text = eqb (rows % 16) 0 && ltb 0 rows && leb rows (16 * most) && eqb (names % 8) 0 && leb names 32768 && leb text 65535
+sizesOk most rows names text = eqb (rows % 16) 0 && ltb 0 rows && leb rows (16 * most) && namesFit names text
 
 -- "first row: attr 1 on Declarator, Ident or Member, or an Arguments row", of n rows
 unfoldable pub firstMade : List ℕ → ℕ → Found

@@ -86,12 +86,8 @@ fn sizes_ok(most: usize, rows: usize, names: usize, text: usize) -> bool
     requires { ⌜ most ≤ 16384 ⌝ }
     ensures { λ o. ⌜ o ≡ sizesOk most rows names text ⌝ }
 {
-    (rows % 16 == 0)
-        & (0 < rows)
-        & (rows <= 16 * most)
-        & (names % 8 == 0)
-        & (names <= 32768)
-        & (text <= 65535)
+    let named = names::names_fit(names, text);
+    (rows % 16 == 0) & (0 < rows) & (rows <= 16 * most) & named
 }
 
 // Whether these bytes are a table: the rows, the pairs of the names and the text that they are

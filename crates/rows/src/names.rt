@@ -5,7 +5,14 @@ use crate::words::cell;
 ghost use mathlib.Core.Path.{_≡_};
 ghost use Prim.Native.Nat.{ℕ, _+_, _*_, _/_, _<_, _≤_};
 ghost use lib.ListN.{length};
-ghost use Rattle.rows.specs.Names.{badName, firstBadName};
+ghost use Rattle.rows.specs.Names.{namesFit, badName, firstBadName};
+
+// Whether names and text of these many bytes are whole pairs, and not too many.
+pub fn names_fit(names: usize, text: usize) -> bool
+    ensures { λ o. ⌜ o ≡ namesFit names text ⌝ }
+{
+    (names % 8 == 0) & (names <= 32768) & (text <= 65535)
+}
 
 // Whether name k, from 1, lies outside the text, is empty or longer than 255 bytes, or is not
 // UTF-8.

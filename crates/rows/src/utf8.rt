@@ -34,7 +34,7 @@ fn seq(a: u8, b: u8, c: u8, d: u8) -> usize
 }
 
 // The byte at i, 0 past the end.
-fn byte(s: &[u8], i: usize) -> u8
+pub fn byte(s: &[u8], i: usize) -> u8
     ensures { λ r. ⌜ r ≡ getD (now (s .entry)) i 0 ⌝ }
 {
     if i < s.len() {
@@ -43,7 +43,8 @@ fn byte(s: &[u8], i: usize) -> u8
     0
 }
 
-fn seq_at(s: &[u8], i: usize) -> usize
+// The length of the well-formed sequence at i, 0 where none starts there.
+pub fn seq_at(s: &[u8], i: usize) -> usize
     requires { ⌜ i < length (now s) ⌝ }
     ensures { λ r. ⌜ (r ≡ seqAt (now (s .entry)) i) × (r ≤ 4) ⌝ }
 {
