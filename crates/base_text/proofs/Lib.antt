@@ -1,0 +1,6 @@
+pub mod Table
+pub mod FirstCharacter
+pub mod Casing
+pub mod Pieces
+pub mod Checking
+pub mod Telling

@@ -1,0 +1,114 @@
+// Base text: the spelled base of a made binding. Refusals 1, 4, 11, 10 and 9, in that order.
+pub mod bases;
+pub mod bindings;
+pub mod head;
+pub mod letters;
+pub mod spell;
+pub mod write;
+
+use bindings::RECORD_BYTES;
+use rows::Found;
+use rows::names;
+ghost use mathlib.Core.Path.{_≡_};
+ghost use mathlib.Core.Bool.{Bool};
+ghost use Prim.Native.Nat.{ℕ};
+ghost use lib.ListN.{length};
+ghost use Rattle.base_text.specs.Refusals.{numberOf, placeOf, countOf, sizesOk, baseText, spelled, Told};
+
+// The property of an accessor: the number of its name, from 1, or none.
+pub enum Property {
+    Named(usize),
+    Absent,
+}
+
+// What base text answers.
+pub enum Spelling {
+    Written { bytes: u32 },
+    Malformed,
+    BadName { name: u32 },
+    BadBinding { binding: u32 },
+    UnknownLetter { binding: u32 },
+    NoRoom,
+}
+
+impl Spelling {
+    // Document 01's number of the answer.
+    pub fn number(self) -> u32
+        ensures { λ r. ⌜ r ≡ numberOf self ⌝ }
+    {
+        match self {
+            Spelling::Written { bytes: _ } => 0,
+            Spelling::Malformed => 1,
+            Spelling::BadName { name: _ } => 4,
+            Spelling::BadBinding { binding: _ } => 11,
+            Spelling::UnknownLetter { binding: _ } => 10,
+            Spelling::NoRoom => 9,
+        }
+    }
+
+    // Its place: 0, the number of a name from 1, or the binding number asked for.
+    pub fn place(self) -> u32
+        ensures { λ r. ⌜ r ≡ placeOf self ⌝ }
+    {
+        match self {
+            Spelling::Written { bytes: _ } => 0,
+            Spelling::Malformed => 0,
+            Spelling::BadName { name } => name,
+            Spelling::BadBinding { binding } => binding,
+            Spelling::UnknownLetter { binding } => binding,
+            Spelling::NoRoom => 0,
+        }
+    }
+
+    // How many bytes were written.
+    pub fn bytes(self) -> u32
+        ensures { λ r. ⌜ r ≡ countOf self ⌝ }
+    {
+        match self {
+            Spelling::Written { bytes } => bytes,
+            Spelling::Malformed => 0,
+            Spelling::BadName { name: _ } => 0,
+            Spelling::BadBinding { binding: _ } => 0,
+            Spelling::UnknownLetter { binding: _ } => 0,
+            Spelling::NoRoom => 0,
+        }
+    }
+}
+
+// The most records that a list of bindings may have.
+const MOST_RECORDS: usize = 65535;
+
+fn sizes_ok(bindings: usize, names: usize, text: usize) -> bool
+    ensures { λ o. ⌜ o ≡ sizesOk bindings names text ⌝ }
+{
+    let named = names::names_fit(names, text);
+    (bindings % RECORD_BYTES == 0) & (bindings <= MOST_RECORDS * RECORD_BYTES) & named
+}
+
+// Writes the text of binding `number`, from 1, to the front of `out`. Any answer but Written leaves
+// `out` as it was.
+pub fn base_text(
+    number: u32,
+    bindings: &[u8],
+    names: &[u8],
+    text: &[u8],
+    out: &mut [u8],
+) -> Spelling
+    ensures { λ r. ⌜ Told r (spelled number (now (bindings .entry)) (now (names .entry)) (now (text .entry)) (length (now (out .entry))))
+        (baseText number (now (bindings .entry)) (now (names .entry)) (now (text .entry))) (now (out .entry)) (now (out .exit)) ⌝ }
+{
+    if !sizes_ok(bindings.len(), names.len(), text.len()) {
+        return Spelling::Malformed;
+    }
+    let bad = names::first_bad_name(names, text);
+    if let Found::At(name) = bad {
+        return Spelling::BadName { name: name as u32 };
+    }
+    let binding = number as usize;
+    if !bindings::binding_ok(binding, bindings, names.len() / 8) {
+        return Spelling::BadBinding { binding: number };
+    }
+    let role = bindings::role_of(bindings, binding);
+    let property = bindings::property_of(bindings, binding);
+    spell::spell(number, role, property, names, text, out)
+}
