@@ -1,14 +1,26 @@
 // Runs the stored tables of the standard input through `rows::check` and compares each answer with the stored one.
 // The input's head comment describes its form. A table that differs has a line of its own; the last line counts both.
-mod input;
-mod table;
-
 use rows::Checked;
 use rows::Limits;
-use table::Built;
+use vectors::input;
+use vectors::runs;
+use vectors::runs::Built;
+use vectors::tally::Tally;
+use vectors::tally::Turn;
+use vectors::tally::bad_data;
+use vectors::tally::print_case;
+use vectors::tally::print_tally;
+use vectors::tally::whole;
 ghost use mathlib.Core.Path.{_≡_};
 ghost use Prim.Native.Nat.{_≤_, _<_};
-ghost use Rattle.io.specs.Counts.{Counts};
+ghost use lib.ListN.{length};
+
+// Room for four rows above the largest limit.
+fn row_room() -> [u8; 262208]
+    ensures { λ r. ⌜ 262208 ≡ length r ⌝ }
+{
+    [0; 262208]
+}
 
 // An answer: the refusal's number, its place, and the fault's class where the number is 2.
 struct Answer {
@@ -57,31 +69,12 @@ fn stored(words: &[u32], at: usize) -> Answer
     }
 }
 
-fn least(a: usize, b: usize) -> usize
-    ensures { λ r. ⌜ r ≤ b ⌝ }
-{
-    if a < b { a } else { b }
-}
-
-// n, and no more than the length of s.
-fn within(n: usize, s: &[u8]) -> usize
-    ensures { λ r. ⌜ Counts r (now (s .entry)) ⌝ }
-{
-    io::count(least(n, 1000000) as isize, s)
-}
-
 // What the check answers for the bytes that were built.
 fn run(table: &[u8], pairs: &[u8], text: &[u8], b: Built, limits: Limits) -> Answer {
-    let t = within(b.table, table);
-    let p = within(b.pairs, pairs);
-    let x = within(b.text, text);
+    let t = runs::within(b.first, table);
+    let p = runs::within(b.pairs, pairs);
+    let x = runs::within(b.text, text);
     answer_of(rows::check(&table[..t], &pairs[..p], &text[..x], limits))
-}
-
-fn print_case(n: usize) {
-    io::write_all(1, b"case ");
-    io::print_decimal(1, n as u64);
-    io::write_all(1, b": ");
 }
 
 fn print_difference(n: usize, got: Answer, want: Answer) {
@@ -104,24 +97,6 @@ fn compared(n: usize, got: Answer, want: Answer) -> usize
     1
 }
 
-// 1 where a table's answer is not the stored one, else 0; and the word after the table.
-struct Turn {
-    differ: usize,
-    at: usize,
-}
-
-// Data that cannot be read counts as a difference and ends the run, as no later table can be found.
-fn bad_data(n: usize, count: usize) -> Turn
-    ensures { λ r. ⌜ (r .differ ≤ 1) × (r .at ≡ count) ⌝ }
-{
-    print_case(n);
-    io::write_all(1, b"bad data\n");
-    Turn {
-        differ: 1,
-        at: count,
-    }
-}
-
 // Table n, whose words start at `from`.
 fn run_case(
     words: &[u32],
@@ -135,7 +110,7 @@ fn run_case(
     requires { ⌜ (from < count) × (count ≤ 65536) ⌝ }
     ensures { λ r. ⌜ (r .differ ≤ 1) × (from < r .at) × (r .at ≤ count) ⌝ }
 {
-    let b = table::build(words, from + 3, table, pairs, text);
+    let b = runs::build(words, from + 3, 4, table, pairs, text);
     let at = b.at;
     let head = input::word(words, from) as usize;
     if count < at + 3 {
@@ -156,19 +131,13 @@ fn run_case(
     }
 }
 
-// How many tables there are, and how many of them differ.
-struct Tally {
-    tables: usize,
-    differ: usize,
-}
-
 fn replay(words: &[u32], count: usize) -> Tally
     requires { ⌜ count ≤ 65536 ⌝ }
-    ensures { λ r. ⌜ (r .tables ≤ 65536) × (r .differ ≤ 65536) ⌝ }
+    ensures { λ r. ⌜ (r .cases ≤ 65536) × (r .differ ≤ 65536) ⌝ }
 {
-    let mut table = table::row_room();
-    let mut pairs = table::pair_room();
-    let mut text = table::text_room();
+    let mut table = row_room();
+    let mut pairs = runs::pair_room();
+    let mut text = runs::text_room();
     let mut at: usize = 0;
     let mut tables: usize = 0;
     let mut differ: usize = 0;
@@ -186,27 +155,9 @@ fn replay(words: &[u32], count: usize) -> Tally
         differ += t.differ;
         at = t.at;
     }
-    Tally { tables, differ }
-}
-
-fn print_tally(t: Tally) {
-    io::print_decimal(1, t.tables as u64);
-    io::write_all(1, b" tables, ");
-    io::print_decimal(1, t.differ as u64);
-    io::write_all(1, b" differ\n");
-}
-
-// Input that is too long or has a byte out of place counts as a difference.
-fn whole(t: Tally, good: bool) -> Tally
-    requires { ⌜ t .differ ≤ 65536 ⌝ }
-{
-    if good {
-        return t;
-    }
-    io::write_all(1, b"bad input\n");
     Tally {
-        tables: t.tables,
-        differ: t.differ + 1,
+        cases: tables,
+        differ,
     }
 }
 
@@ -216,5 +167,5 @@ fn main() {
     let n = io::read_full(0, &mut data);
     let r = input::numbers(&data[..n], &mut words);
     let t = replay(&words, r.count);
-    print_tally(whole(t, r.good & (n < 524288)));
+    print_tally(whole(t, r.good & (n < 524288)), b"tables");
 }

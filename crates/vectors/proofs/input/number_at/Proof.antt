@@ -1,9 +1,9 @@
--- `input::number_at` stays within the input, and its number fits a u32.
+-- `vectors::input::number_at` stays within the input, and its number fits a u32.
 use Prim.Native.Nat.{_-_, _≤_, _<_}
 use lib.ListN.{length}
 use borrow.Author.Needs.{needs}
-use Rattle.replay.proofs.input.number_at.Statement.{statement}
-use Rattle.replay.proofs.input.number_at.Tie as tie
+use Rattle.vectors.proofs.input.number_at.Statement.{statement}
+use Rattle.vectors.proofs.input.number_at.Tie as tie
 
 abbrev Inv-loop : tie.InvT-loop
 Inv-loop s from value₀ at₀ value at = (from < at) × (at ≤ length s) × (value ≤ 4294967295)

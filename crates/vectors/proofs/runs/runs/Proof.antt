@@ -1,10 +1,10 @@
--- `table::runs` stays within the room, and goes on by at most 6 words a run.
+-- `vectors::runs::runs` stays within the room, and goes on by at most 6 words a run.
 use Prim.Native.Nat.{_+_, _*_, _-_, _≤_, _<_}
 use mathlib.Core.Path.{_≡_}
 use lib.ListN.{length}
 use borrow.Author.Needs.{needs}
-use Rattle.replay.proofs.table.runs.Statement.{statement}
-use Rattle.replay.proofs.table.runs.Tie as tie
+use Rattle.vectors.proofs.runs.runs.Statement.{statement}
+use Rattle.vectors.proofs.runs.runs.Tie as tie
 
 abbrev Inv-loop : tie.InvT-loop
 Inv-loop words from out₀ room width count at₀ len₀ i₀ out at len i = (length out ≡ length out₀) × (len ≤ room) × (from < at) × (at ≤ from + 1 + 6 * i) × (i ≤ count)

@@ -1,21 +1,17 @@
-// The bytes of one stored table: its rows, its name pairs and its text. Each part is stored as runs of items.
+// The bytes of one stored case: its rows or records, its name pairs and its text. Each part is stored as
+// runs of items.
 use crate::input::word;
 ghost use mathlib.Core.Path.{_≡_};
 ghost use Prim.Native.Nat.{_+_, _≤_, _<_};
 ghost use lib.ListN.{length};
+ghost use Rattle.io.specs.Counts.{Counts};
 
-const ROW_ROOM: usize = 262208;
+// The most bytes that a case's rows or records can have.
+const MOST_ROOM: usize = 786448;
 
 const PAIR_ROOM: usize = 32832;
 
 const TEXT_ROOM: usize = 65552;
-
-// Room for four rows above the largest limit.
-pub fn row_room() -> [u8; 262208]
-    ensures { λ r. ⌜ 262208 ≡ length r ⌝ }
-{
-    [0; ROW_ROOM]
-}
 
 // Room for eight names above the limit.
 pub fn pair_room() -> [u8; 32832]
@@ -31,13 +27,19 @@ pub fn text_room() -> [u8; 65552]
     [0; TEXT_ROOM]
 }
 
-// What a run repeats. One field grows from item to item: a row's end, a pair's start, the byte.
+// What a run repeats. One field grows from item to item: a row's end, a record's frame, a pair's start,
+// the byte.
 enum Item {
     Row {
         kind: u32,
         attr: u32,
         name: u32,
         end: u32,
+    },
+    Record {
+        role: u32,
+        property: u32,
+        frame: u32,
     },
     Pair {
         start: u32,
@@ -60,6 +62,11 @@ impl Item {
                 name: _,
                 end: _,
             } => 16,
+            Item::Record {
+                role: _,
+                property: _,
+                frame: _,
+            } => 12,
             Item::Pair {
                 start: _,
                 length: _,
@@ -83,6 +90,17 @@ impl Item {
                     end: std::num::wrapping_add_u32(end, step),
                 }
             }
+            Item::Record {
+                role,
+                property,
+                frame,
+            } => {
+                Item::Record {
+                    role,
+                    property,
+                    frame: std::num::wrapping_add_u32(frame, step),
+                }
+            }
             Item::Pair { start, length } => {
                 Item::Pair {
                     start: std::num::wrapping_add_u32(start, step),
@@ -96,7 +114,7 @@ impl Item {
     }
 }
 
-// The item whose words start at `at`: four words of a row, two of a pair, one of a byte.
+// The item whose words start at `at`: four words of a row, three of a record, two of a pair, one of a byte.
 fn item_at(words: &[u32], at: usize, width: usize) -> Item
     requires { ⌜ at ≤ 1099511627776 ⌝ }
 {
@@ -110,6 +128,13 @@ fn item_at(words: &[u32], at: usize, width: usize) -> Item
             end: word(words, at + 3),
         };
     }
+    if width == 3 {
+        return Item::Record {
+            role: first,
+            property: second,
+            frame: word(words, at + 2),
+        };
+    }
     if width == 2 {
         return Item::Pair {
             start: first,
@@ -120,7 +145,7 @@ fn item_at(words: &[u32], at: usize, width: usize) -> Item
 }
 
 // Stores a byte, or nothing past the end.
-fn put(out: &mut [u8], at: usize, b: u8) {
+pub fn put(out: &mut [u8], at: usize, b: u8) {
     if at < out.len() {
         out[at] = b;
     }
@@ -128,7 +153,7 @@ fn put(out: &mut [u8], at: usize, b: u8) {
 
 // Stores a word, its low byte first.
 fn put_word(out: &mut [u8], at: usize, w: u32)
-    requires { ⌜ at ≤ 300000 ⌝ }
+    requires { ⌜ at ≤ 786460 ⌝ }
 {
     put(out, at, (w % 256) as u8);
     put(out, at + 1, (w / 256 % 256) as u8);
@@ -137,14 +162,14 @@ fn put_word(out: &mut [u8], at: usize, w: u32)
 }
 
 fn put_pair(out: &mut [u8], at: usize, first: u32, second: u32)
-    requires { ⌜ at ≤ 262216 ⌝ }
+    requires { ⌜ at ≤ 786456 ⌝ }
 {
     put_word(out, at, first);
     put_word(out, at + 4, second);
 }
 
 fn put_item(out: &mut [u8], at: usize, item: Item)
-    requires { ⌜ at ≤ 262208 ⌝ }
+    requires { ⌜ at ≤ 786448 ⌝ }
 {
     match item {
         Item::Row {
@@ -155,6 +180,14 @@ fn put_item(out: &mut [u8], at: usize, item: Item)
         } => {
             put_pair(out, at, kind, attr);
             put_pair(out, at + 8, name, end);
+        }
+        Item::Record {
+            role,
+            property,
+            frame,
+        } => {
+            put_pair(out, at, role, property);
+            put_word(out, at + 8, frame);
         }
         Item::Pair { start, length } => put_pair(out, at, start, length),
         Item::Byte { byte } => put(out, at, (byte % 256) as u8),
@@ -169,7 +202,7 @@ struct Laid {
 
 // A run: `times` items from byte `from` on.
 fn put_items(out: &mut [u8], room: usize, from: usize, first: Item, times: u32, step: u32) -> Laid
-    requires { ⌜ (from ≤ room) × (room ≤ 262208) ⌝ }
+    requires { ⌜ (from ≤ room) × (room ≤ 786448) ⌝ }
     ensures { λ r. ⌜ r .len ≤ room ⌝ }
 {
     let mut len = from;
@@ -197,7 +230,7 @@ struct Part {
 
 // The runs of a part: how many there are, and each one's item, times and step.
 fn runs(words: &[u32], from: usize, out: &mut [u8], room: usize, width: usize) -> Part
-    requires { ⌜ (from ≤ 137438953472) × (room ≤ 262208) × (width ≤ 4) ⌝ }
+    requires { ⌜ (from ≤ 137438953472) × (room ≤ 786448) × (width ≤ 4) ⌝ }
     ensures { λ r. ⌜ (r .len ≤ room) × (from < r .at) × (r .at ≤ from + 34359738368) ⌝ }
 {
     let count = word(words, from);
@@ -242,7 +275,7 @@ fn runs(words: &[u32], from: usize, out: &mut [u8], room: usize, width: usize) -
 
 // A part with zero bytes behind its runs: the word after the runs says how many.
 fn part_with_zeros(words: &[u32], from: usize, out: &mut [u8], room: usize, width: usize) -> Part
-    requires { ⌜ (from ≤ 68719476736) × (room ≤ 262208) × (width ≤ 4) ⌝ }
+    requires { ⌜ (from ≤ 68719476736) × (room ≤ 786448) × (width ≤ 4) ⌝ }
     ensures { λ r. ⌜ (r .len ≤ room) × (from < r .at) × (r .at ≤ from + 34359738369) ⌝ }
 {
     let p = runs(words, from, out, room, width);
@@ -255,34 +288,49 @@ fn part_with_zeros(words: &[u32], from: usize, out: &mut [u8], room: usize, widt
     }
 }
 
-// A table that was built: the bytes of its three parts, and the word after them.
+// A case that was built: the bytes of its three parts, and the word after them.
 pub struct Built {
     pub good: bool,
-    pub table: usize,
+    pub first: usize,
     pub pairs: usize,
     pub text: usize,
     pub at: usize,
 }
 
-// Builds the table whose words start at `from`.
+// Builds the case whose words start at `from`. Its first part has items of `width` words: 4 for rows, 3
+// for records.
 pub fn build(
     words: &[u32],
     from: usize,
-    table: &mut [u8],
+    width: usize,
+    first: &mut [u8],
     pairs: &mut [u8],
     text: &mut [u8],
 ) -> Built
-    requires { ⌜ from ≤ 65539 ⌝ }
+    requires { ⌜ (from ≤ 65539) × (width ≤ 4) ⌝ }
     ensures { λ r. ⌜ (from < r .at) × (r .at ≤ 1099511627776) ⌝ }
 {
-    let r = part_with_zeros(words, from, table, ROW_ROOM, 4);
-    let p = part_with_zeros(words, r.at, pairs, PAIR_ROOM, 2);
+    let f = part_with_zeros(words, from, first, least(first.len(), MOST_ROOM), width);
+    let p = part_with_zeros(words, f.at, pairs, PAIR_ROOM, 2);
     let t = runs(words, p.at, text, TEXT_ROOM, 1);
     Built {
-        good: r.good & p.good & t.good,
-        table: r.len,
+        good: f.good & p.good & t.good,
+        first: f.len,
         pairs: p.len,
         text: t.len,
         at: t.at,
     }
+}
+
+fn least(a: usize, b: usize) -> usize
+    ensures { λ r. ⌜ r ≤ b ⌝ }
+{
+    if a < b { a } else { b }
+}
+
+// n, and no more than the length of s.
+pub fn within(n: usize, s: &[u8]) -> usize
+    ensures { λ r. ⌜ Counts r (now (s .entry)) ⌝ }
+{
+    io::count(least(n, 1000000) as isize, s)
 }

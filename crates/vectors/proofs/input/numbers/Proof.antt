@@ -1,10 +1,10 @@
--- `input::numbers` stays within the input and the room.
+-- `vectors::input::numbers` stays within the input and the room.
 use Prim.Native.Nat.{_-_, _≤_}
 use mathlib.Core.Path.{_≡_}
 use lib.ListN.{length}
 use borrow.Author.Needs.{needs}
-use Rattle.replay.proofs.input.numbers.Statement.{statement}
-use Rattle.replay.proofs.input.numbers.Tie as tie
+use Rattle.vectors.proofs.input.numbers.Statement.{statement}
+use Rattle.vectors.proofs.input.numbers.Tie as tie
 
 abbrev Inv-loop : tie.InvT-loop
 Inv-loop s words₀ at₀ count₀ words at count = (length words ≡ length words₀) × (at ≤ length s) × (count ≤ 65536)

@@ -1,10 +1,10 @@
--- `table::put_items` stays within the room.
+-- `vectors::runs::put_items` stays within the room.
 use Prim.Native.Nat.{_-_, _≤_}
 use mathlib.Core.Path.{_≡_}
 use lib.ListN.{length}
 use borrow.Author.Needs.{needs}
-use Rattle.replay.proofs.table.put_items.Statement.{statement}
-use Rattle.replay.proofs.table.put_items.Tie as tie
+use Rattle.vectors.proofs.runs.put_items.Statement.{statement}
+use Rattle.vectors.proofs.runs.put_items.Tie as tie
 
 abbrev Inv-loop : tie.InvT-loop
 Inv-loop out₀ room from times step len₀ item₀ i₀ out len item i = (length out ≡ length out₀) × (len ≤ room) × (i ≤ times)

@@ -1,9 +1,9 @@
--- `input::skip` stays within the input.
+-- `vectors::input::skip` stays within the input.
 use Prim.Native.Nat.{_-_, _≤_}
 use lib.ListN.{length}
 use borrow.Author.Needs.{needs}
-use Rattle.replay.proofs.input.skip.Statement.{statement}
-use Rattle.replay.proofs.input.skip.Tie as tie
+use Rattle.vectors.proofs.input.skip.Statement.{statement}
+use Rattle.vectors.proofs.input.skip.Tie as tie
 
 abbrev Inv-loop : tie.InvT-loop
 Inv-loop s from at₀ part₀ at part = (from ≤ at) × (at ≤ length s)
