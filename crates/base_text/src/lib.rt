@@ -1,10 +1,10 @@
 // Base text: the spelled base of a made binding. Refusals 1, 4, 11, 10 and 9, in that order.
-pub mod bases;
-pub mod bindings;
-pub mod head;
-pub mod letters;
-pub mod spell;
-pub mod write;
+mod bases;
+mod bindings;
+mod head;
+mod letters;
+mod spell;
+mod write;
 
 use bindings::RECORD_BYTES;
 use rows::Found;
@@ -13,7 +13,7 @@ ghost use mathlib.Core.Path.{_≡_};
 ghost use mathlib.Core.Bool.{Bool};
 ghost use Prim.Native.Nat.{ℕ};
 ghost use lib.ListN.{length};
-ghost use Rattle.base_text.specs.Refusals.{numberOf, placeOf, countOf, sizesOk, baseText, spelled, Told};
+ghost use Rattle.base_text.specs.Refusals.{sizesOk, baseText, spelled, Told};
 
 // The property of an accessor: the number of its name, from 1, or none.
 pub enum Property {
@@ -29,50 +29,6 @@ pub enum Spelling {
     BadBinding { binding: u32 },
     UnknownLetter { binding: u32 },
     NoRoom,
-}
-
-impl Spelling {
-    // Document 01's number of the answer.
-    pub fn number(self) -> u32
-        ensures { λ r. ⌜ r ≡ numberOf self ⌝ }
-    {
-        match self {
-            Spelling::Written { bytes: _ } => 0,
-            Spelling::Malformed => 1,
-            Spelling::BadName { name: _ } => 4,
-            Spelling::BadBinding { binding: _ } => 11,
-            Spelling::UnknownLetter { binding: _ } => 10,
-            Spelling::NoRoom => 9,
-        }
-    }
-
-    // Its place: 0, the number of a name from 1, or the binding number asked for.
-    pub fn place(self) -> u32
-        ensures { λ r. ⌜ r ≡ placeOf self ⌝ }
-    {
-        match self {
-            Spelling::Written { bytes: _ } => 0,
-            Spelling::Malformed => 0,
-            Spelling::BadName { name } => name,
-            Spelling::BadBinding { binding } => binding,
-            Spelling::UnknownLetter { binding } => binding,
-            Spelling::NoRoom => 0,
-        }
-    }
-
-    // How many bytes were written.
-    pub fn bytes(self) -> u32
-        ensures { λ r. ⌜ r ≡ countOf self ⌝ }
-    {
-        match self {
-            Spelling::Written { bytes } => bytes,
-            Spelling::Malformed => 0,
-            Spelling::BadName { name: _ } => 0,
-            Spelling::BadBinding { binding: _ } => 0,
-            Spelling::UnknownLetter { binding: _ } => 0,
-            Spelling::NoRoom => 0,
-        }
-    }
 }
 
 // The most records that a list of bindings may have.

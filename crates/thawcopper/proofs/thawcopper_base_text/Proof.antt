@@ -11,30 +11,24 @@ use Rattle.thawcopper.proofs.thawcopper_base_text.Tie as tie
 base-text-requires : tie.Need-base-text-requires
 base-text-requires c κs = search needs
 
-number-requires : tie.Need-number-requires
-number-requires c κs = search needs
-
-place-requires : tie.Need-place-requires
-place-requires c κs = search needs
-
-bytes-requires : tie.Need-bytes-requires
-bytes-requires c κs = search needs
+numbers-of-requires : tie.Need-numbers-of-requires
+numbers-of-requires c κs = search needs
 
 same-length : tie.Need-same-length
 same-length c = search needs
 
 returns : tie.Need-returns
 returns c =
-    let a = c .before .before .before .before .before .before .before .before .before .before .before .args in
-    let told = c .before .before .before .before .before .base-text .ensures in
+    let a = c .before .before .before .before .before .before .before .before .before .args in
+    let told = c .before .before .before .base-text .ensures in
+    let said = c .numbers-of .ensures in
     record {
-      refused = c .before .before .number .ensures ∙ ap numberOf (told .right);
-      placed = c .before .place .ensures ∙ ap placeOf (told .right);
-      counted = c .bytes .ensures ∙ ap countOf (told .right);
+      refused = said .0 ∙ ap numberOf (told .right);
+      placed = said .1 ∙ ap placeOf (told .right);
+      counted = said .2 ∙ ap countOf (told .right);
       written = told .bytes ∙ ap (λ (s : Spelling). take (countOf s) (baseText (a .number) (a .bindings .now) (a .names .now) (a .text .now)) ++ drop (countOf s) (a .out .now)) (told .right);
     }
 
 pub thawcopper-base-text-spec : {M : Type 1} → statement M
 thawcopper-base-text-spec =
-    tie.close
-    (tie.spec base-text-requires number-requires place-requires bytes-requires same-length returns)
+    tie.close (tie.spec base-text-requires numbers-of-requires same-length returns)

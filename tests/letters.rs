@@ -1,0 +1,31 @@
+//! The 224 mappings of crates/base_text/specs/Letters.antt against the Rust library's `char::to_uppercase`.
+//!
+//!   rustc -o letters tests/letters.rs && ./letters crates/base_text/specs/Letters.antt
+//!
+//! Prints the library's Unicode version; a difference ends it with a panic.
+
+/// The lines `up 0x00DF (0x0053 ∷ 0x0053 ∷ []) ∷` of the definition.
+fn mappings(text: &str) -> Vec<(u32, String)> {
+    let number = |word: &str| u32::from_str_radix(word.trim_start_matches("0x"), 16).unwrap();
+    let line = |line: &str| {
+        let (code, capitals) = line.trim().strip_prefix("up 0x")?.split_once(" (")?;
+        let capitals = capitals.split(" ∷ ").filter(|word| word.starts_with("0x")).map(number);
+        Some((number(code), capitals.map(|c| char::from_u32(c).unwrap()).collect()))
+    };
+    text.lines().filter_map(line).collect()
+}
+
+fn upper(c: char) -> String {
+    c.to_uppercase().collect()
+}
+
+fn main() {
+    let path = std::env::args().nth(1).expect("the path of Letters.antt");
+    let listed = mappings(&std::fs::read_to_string(path).unwrap());
+    let codes: Vec<u32> = listed.iter().map(|entry| entry.0).collect();
+    assert_eq!(codes, (0x80..=0xFF).chain(0x400..=0x45F).collect::<Vec<u32>>());
+    for (code, capitals) in &listed {
+        assert_eq!(*capitals, upper(char::from_u32(*code).unwrap()), "U+{code:04X}");
+    }
+    println!("{} mappings as in the Rust library's Unicode {:?}", listed.len(), char::UNICODE_VERSION);
+}
