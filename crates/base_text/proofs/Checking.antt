@@ -14,7 +14,7 @@ use Rattle.rows.specs.declared.Found.the-variants.{At, Nothing}
 use Rattle.rows.proofs.Bools.{and-left, and-right}
 use Rattle.rows.proofs.Seeking.{first-below, first-none}
 use Rattle.rows.proofs.Ordering.{NameSizes, name-sizes}
-use Rattle.base_text.specs.Bindings.{recordBytes, recordsIn, roleOf, propertyNumber, frameOf, propertyOf, recordOk, bindingOk}
+use Rattle.base_text.specs.Bindings.{recordBytes, mostRecords, recordsIn, roleOf, propertyNumber, frameOf, propertyOf, recordOk, bindingOk}
 use Rattle.base_text.specs.Bases.{propertyOk}
 use Rattle.base_text.specs.Refusals.{sizesOk}
 use Rattle.base_text.specs.declared.Property.{Property}
@@ -30,15 +30,15 @@ then-second false b e = e
 
 -- sizes that 1 does not turn away
 pub record Sized (bindings names text : ℕ) : Type 0 where
-  pub records : bindings ≤ 786420
+  pub records : bindings ≤ mostRecords * recordBytes
   pub few : names ≤ 32768
 
 pub sized : (bindings names text : ℕ) → sizesOk bindings names text ≡ true → Sized bindings names text
 sized bindings names text e =
-    let h = and-left (eqb (bindings % recordBytes) 0 && leb bindings 786420) (namesFit names text) e in
+    let h = and-left (eqb (bindings % recordBytes) 0 && leb bindings (mostRecords * recordBytes)) (namesFit names text) e in
     record {
-      records = leb-true _ _ (and-right (eqb (bindings % recordBytes) 0) (leb bindings 786420) h);
-      few = name-sizes names text (and-right (eqb (bindings % recordBytes) 0 && leb bindings 786420) (namesFit names text) e) .few;
+      records = leb-true _ _ (and-right (eqb (bindings % recordBytes) 0) (leb bindings (mostRecords * recordBytes)) h);
+      few = name-sizes names text (and-right (eqb (bindings % recordBytes) 0 && leb bindings (mostRecords * recordBytes)) (namesFit names text) e) .few;
     }
 
 -- the first bad name is one of the names

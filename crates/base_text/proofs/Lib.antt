@@ -4,3 +4,4 @@ pub mod Casing
 pub mod Pieces
 pub mod Checking
 pub mod Telling
+pub mod Meaning

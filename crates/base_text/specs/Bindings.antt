@@ -16,6 +16,10 @@ recordWords = 3
 abbrev pub recordBytes : ℕ
 recordBytes = 4 * recordWords
 
+-- "over 65,535 records" is too many
+abbrev pub mostRecords : ℕ
+mostRecords = 65535
+
 -- how many records some bytes hold
 abbrev pub recordsIn : List ℕ → ℕ
 recordsIn bindings = length bindings / recordBytes

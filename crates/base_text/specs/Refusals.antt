@@ -11,7 +11,7 @@ use Rattle.rows.specs.declared.Found.{Found}
 use Rattle.rows.specs.declared.Found.the-variants.{At, Nothing}
 use Rattle.base_text.specs.Characters.{firstCode}
 use Rattle.base_text.specs.Letters.{known}
-use Rattle.base_text.specs.Bindings.{recordBytes, roleOf, propertyNumber, propertyOf, bindingOk}
+use Rattle.base_text.specs.Bindings.{recordBytes, mostRecords, roleOf, propertyNumber, propertyOf, bindingOk}
 use Rattle.base_text.specs.Bases.{baseOf, withProperty, textFor}
 use Rattle.base_text.specs.declared.Property.{Property}
 use Rattle.base_text.specs.declared.Property.the-variants.{Named, Absent}
@@ -44,9 +44,6 @@ countOf (UnknownLetter binding) = 0
 countOf NoRoom = 0
 
 -- not 1: "binding words not a multiple of 3 or over 65,535 records, or names and text as above". The arguments are lengths in bytes.
-abbrev pub mostRecords : ℕ
-mostRecords = 65535
-
 abbrev pub sizesOk : (bindings names text : ℕ) → Bool
 sizesOk bindings names text = eqb (bindings % recordBytes) 0 && leb bindings (mostRecords * recordBytes) && namesFit names text
 

@@ -6,6 +6,7 @@ mod letters;
 mod spell;
 mod write;
 
+use bindings::MOST_RECORDS;
 use bindings::RECORD_BYTES;
 use rows::Found;
 use rows::names;
@@ -30,9 +31,6 @@ pub enum Spelling {
     UnknownLetter { binding: u32 },
     NoRoom,
 }
-
-// The most records that a list of bindings may have.
-const MOST_RECORDS: usize = 65535;
 
 fn sizes_ok(bindings: usize, names: usize, text: usize) -> bool
     ensures { λ o. ⌜ o ≡ sizesOk bindings names text ⌝ }
