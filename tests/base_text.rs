@@ -78,6 +78,8 @@ fn main() {
     let mut tried = BTreeMap::new();
     for c in (0..0x110000).filter_map(char::from_u32) {
         let (what, wanted) = if c.is_ascii() {
+            // The short way is Unicode's but for the five characters after `z`.
+            assert_eq!(short_way(c as u8).to_string() == upper(c), c <= 'z', "{c:?}");
             ("ASCII", Ok(format!("superprop_get{}x", short_way(c as u8))))
         } else if in_table(c as u32) {
             ("in the table", Ok(format!("superprop_get{}x", upper(c))))
