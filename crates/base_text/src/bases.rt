@@ -1,4 +1,9 @@
 // The bases.
+use crate::bindings::ARGUMENTS;
+use crate::bindings::GET;
+use crate::bindings::PROP;
+use crate::bindings::SET;
+use crate::bindings::THIS;
 ghost use Prim.Native.Nat.{ℕ};
 ghost use Rattle.base_text.specs.Bases.{PartOf};
 
@@ -12,25 +17,25 @@ pub struct Part {
 pub fn base_of(role: usize) -> Part
     ensures { λ r. ⌜ PartOf role (r .from) (r .count) ⌝ }
 {
-    if role == 1 {
+    if role == THIS {
         return Part { from: 0, count: 4 };
     }
-    if role == 2 {
+    if role == ARGUMENTS {
         return Part { from: 4, count: 9 };
     }
-    if role == 3 {
+    if role == GET {
         return Part {
             from: 13,
             count: 13,
         };
     }
-    if role == 4 {
+    if role == SET {
         return Part {
             from: 26,
             count: 13,
         };
     }
-    if role == 5 {
+    if role == PROP {
         return Part { from: 39, count: 4 };
     }
     Part { from: 43, count: 5 }

@@ -6,6 +6,19 @@ ghost use Prim.Native.Nat.{ℕ, _*_, _/_, _<_, _≤_};
 ghost use lib.ListN.{length};
 ghost use Rattle.base_text.specs.Bindings.{recordBytes, mostRecords, roleOf, propertyNumber, propertyOf, recordOk, bindingOk};
 
+// The uses of a binding.
+pub const THIS: usize = 1;
+
+pub const ARGUMENTS: usize = 2;
+
+pub const GET: usize = 3;
+
+pub const SET: usize = 4;
+
+pub const PROP: usize = 5;
+
+pub const VALUE: usize = 6;
+
 // How many words a record has: use, property, frame.
 const RECORD_WORDS: usize = 3;
 
@@ -40,9 +53,9 @@ pub fn property_of(bindings: &[u8], i: usize) -> Property
 fn record_ok(names: usize, role: usize, property: usize, frame: usize) -> bool
     ensures { λ o. ⌜ o ≡ recordOk names role property frame ⌝ }
 {
-    ((1 <= role) & (role <= 6))
+    ((THIS <= role) & (role <= VALUE))
         & (property <= names)
-        & ((property == 0) | (role == 3) | (role == 4))
+        & ((property == 0) | (role == GET) | (role == SET))
         & (frame <= LAST_ROW)
 }
 

@@ -77,6 +77,7 @@ pub fn spell(
     let base = base_of(role);
     let from = base.from;
     let count = base.count;
+    // An access with no property gives the bare base.
     let Property::Named(k) = property else {
         if out.len() < count {
             return Spelling::NoRoom;
