@@ -17,3 +17,7 @@ pub mod Bounds
 pub mod Shaped
 pub mod Acceptance
 pub mod Walked
+pub mod Scanning
+pub mod Firsts
+pub mod Occurring
+pub mod Fusing

@@ -14,6 +14,7 @@ pub mod TopInsertion
 pub mod Walk
 pub mod Steps
 pub mod Context
+pub mod Fused
 pub mod Refusals
 pub mod Owners
 pub mod Outcome
