@@ -1,0 +1,61 @@
+// Writing rows and records into bytes that the caller lends. A row or record that does not lie
+// whole in the bytes is left out, and the count goes on: over no bytes at all, a walk counts.
+
+ghost use mathlib.Core.Path.{_≡_};
+ghost use Prim.Native.Nat.{ℕ, _+_, _≤_, _<_, _^_};
+ghost use lib.ListN.{length};
+ghost use lib.Seq.{sets};
+ghost use Rattle.output.specs.Output.{le32, setEnd, Appended, Recorded};
+
+// Four bytes from `at` on, the low byte first.
+fn put_word(out: &mut [u8], at: usize, x: u32)
+    requires { ⌜ at + 4 ≤ length (now out) ⌝ }
+    ensures { λ _. ⌜ now (out .exit) ≡ sets (now (out .entry)) at (le32 x) ⌝ }
+{
+    out[at] = (x % 256) as u8;
+    out[at + 1] = (x / 256 % 256) as u8;
+    out[at + 2] = (x / 65536 % 256) as u8;
+    out[at + 3] = (x / 16777216) as u8;
+}
+
+// Row `at`, where it lies whole in the bytes; the answer is the next row's number.
+pub fn append(out: &mut [u8], at: usize, kind: u32, attr: u32, name: u32, end: u32) -> usize
+    requires { ⌜ at < 2 ^ 32 ⌝ }
+    ensures { λ r. ⌜ Appended (now (out .entry)) at kind attr name end r (now (out .exit)) ⌝ }
+{
+    let b = at * 16;
+    let next = at + 1;
+    if b + 16 <= out.len() {
+        put_word(out, b, kind);
+        put_word(out, b + 4, attr);
+        put_word(out, b + 8, name);
+        put_word(out, b + 12, end);
+    }
+    next
+}
+
+// The end of row `at`, for a row whose children were written after it.
+pub fn patch_end(out: &mut [u8], at: usize, end: u32)
+    requires { ⌜ at < 2 ^ 32 ⌝ }
+    ensures { λ _. ⌜ now (out .exit) ≡ setEnd (now (out .entry)) at end ⌝ }
+{
+    let b = at * 16;
+    if b + 16 <= out.len() {
+        put_word(out, b + 12, end);
+    }
+}
+
+// Record `at`, where it lies whole in the bytes; the answer is the next record's number.
+pub fn put_record(out: &mut [u8], at: usize, a: u32, b: u32, c: u32) -> usize
+    requires { ⌜ at < 2 ^ 32 ⌝ }
+    ensures { λ r. ⌜ Recorded (now (out .entry)) at a b c r (now (out .exit)) ⌝ }
+{
+    let first = at * 12;
+    let next = at + 1;
+    if first + 12 <= out.len() {
+        put_word(out, first, a);
+        put_word(out, first + 4, b);
+        put_word(out, first + 8, c);
+    }
+    next
+}
