@@ -1,3 +1,5 @@
 pub mod Stores
 pub mod Writing
 pub mod Recording
+pub mod Placing
+pub mod Shapes

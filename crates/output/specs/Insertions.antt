@@ -1,11 +1,15 @@
--- An accessor of module 8 by the numbers of its params, one by one. Assumes nothing.
+-- Parts of what module 8 puts in, as the writers make them: an accessor by the numbers of its params, one by one. Assumes nothing.
 use Prim.Native.Nat.{ℕ}
 use mathlib.Core.Bool.{Bool, cond}
 use lib.Dec.{eqb}
-use Rattle.rows.specs.Kinds.{Declarator, Ident, Assign, Arrow, Params, Target}
+use Rattle.rows.specs.Kinds.{Declarator, Ident, Assign, Arrow, Params, Arguments, Target}
 use Rattle.rows.specs.Forest.{Rows, Rows.none, Rows.node}
 use Rattle.steps.specs.Joining.{join}
 use Rattle.steps.specs.TopInsertion.{accessRow}
+
+-- "arguments (guarded at Program)"
+abbrev pub argumentsRow : Bool → Rows
+argumentsRow g = node Arguments (cond g 1 0) 0 none none
 
 -- the Declarator of a param, where there is one
 unfoldable pub paramIf : Bool → (b : ℕ) → Rows

@@ -1,6 +1,8 @@
 // Writing rows and records into bytes that the caller lends. A row or record that does not lie
 // whole in the bytes is left out, and the count goes on: over no bytes at all, a walk counts.
 
+pub mod inserted;
+
 ghost use mathlib.Core.Path.{_≡_};
 ghost use Prim.Native.Nat.{ℕ, _+_, _≤_, _<_, _^_};
 ghost use lib.ListN.{length};
