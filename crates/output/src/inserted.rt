@@ -1,38 +1,36 @@
 // The rows that modules 7 and 8 put in. Each function writes them from row `at` on, and the answer
 // is the next row's number.
-ghost use mathlib.Core.Path.{_≡_};
-ghost use mathlib.Core.Bool.{Bool};
-ghost use Prim.Native.Nat.{ℕ, _+_, _<_, _^_};
-ghost use lib.Dec.{eqb};
-ghost use Rattle.rows.specs.Forest.{Rows, Rows.none, size};
+ghost use Prim.Native.Nat.{_+_, _<_, _^_};
+ghost use Rattle.rows.specs.Forest.{Rows.none, size};
 ghost use Rattle.steps.specs.AfterSuper.{assignment};
 ghost use Rattle.steps.specs.TopInsertion.{thisDecl, argumentsDecl, accessRow};
 ghost use Rattle.output.specs.Output.{Done};
 ghost use Rattle.output.specs.Insertions.{argumentsRow, paramIf, paramsRow, bodyRow, accessorOf};
 use super::append;
 use super::patch_end;
+use rows::kinds;
 
-const DECLARATOR: u32 = 3;
+const DECLARATOR: u32 = kinds::DECLARATOR as u32;
 
-const THIS: u32 = 9;
+const THIS: u32 = kinds::THIS as u32;
 
-const SUPER: u32 = 10;
+const SUPER: u32 = kinds::SUPER as u32;
 
-const IDENT: u32 = 11;
+const IDENT: u32 = kinds::IDENT as u32;
 
-const MEMBER: u32 = 12;
+const MEMBER: u32 = kinds::MEMBER as u32;
 
-const COMPUTED: u32 = 13;
+const COMPUTED: u32 = kinds::COMPUTED as u32;
 
-const ASSIGN: u32 = 15;
+const ASSIGN: u32 = kinds::ASSIGN as u32;
 
-const ARROW: u32 = 16;
+const ARROW: u32 = kinds::ARROW as u32;
 
-const PARAMS: u32 = 18;
+const PARAMS: u32 = kinds::PARAMS as u32;
 
-const ARGUMENTS: u32 = 27;
+const ARGUMENTS: u32 = kinds::ARGUMENTS as u32;
 
-const TARGET: u32 = 28;
+const TARGET: u32 = kinds::TARGET as u32;
 
 // `captured = this`, where `b` is the number of the binding.
 pub fn assignment(out: &mut [u8], at: usize, b: u32) -> usize

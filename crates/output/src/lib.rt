@@ -1,10 +1,9 @@
 // Writing rows and records into bytes that the caller lends. A row or record that does not lie
 // whole in the bytes is left out, and the count goes on: over no bytes at all, a walk counts.
-
 pub mod inserted;
 
 ghost use mathlib.Core.Path.{_≡_};
-ghost use Prim.Native.Nat.{ℕ, _+_, _≤_, _<_, _^_};
+ghost use Prim.Native.Nat.{_+_, _≤_, _<_, _^_};
 ghost use lib.ListN.{length};
 ghost use lib.Seq.{sets};
 ghost use Rattle.output.specs.Output.{le32, setEnd, Appended, Recorded};
@@ -53,11 +52,11 @@ pub fn put_record(out: &mut [u8], at: usize, a: u32, b: u32, c: u32) -> usize
     ensures { λ r. ⌜ Recorded (now (out .entry)) at a b c r (now (out .exit)) ⌝ }
 {
     let first = at * 12;
-    let next = at + 1;
+    let after = at + 1;
     if first + 12 <= out.len() {
         put_word(out, first, a);
         put_word(out, first + 4, b);
         put_word(out, first + 8, c);
     }
-    next
+    after
 }

@@ -9,8 +9,8 @@ use Rattle.output.proofs.put_record.Tie as tie
 mul-first : tie.Need-mul-first
 mul-first c = search needs
 
-add-next : tie.Need-add-next
-add-next c = search needs
+add-after : tie.Need-add-after
+add-after c = search needs
 
 add-if1 : tie.Need-add-if1
 add-if1 c = search needs
@@ -48,7 +48,7 @@ put-record-spec =
     tie.close
     (tie.spec
     mul-first
-    add-next
+    add-after
     add-if1
     put-word-requires
     add-put-word
