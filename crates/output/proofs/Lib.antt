@@ -1,5 +1,6 @@
 pub mod Stores
 pub mod Writing
 pub mod Recording
+pub mod Loops
 pub mod Placing
 pub mod Shapes

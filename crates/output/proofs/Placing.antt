@@ -1,7 +1,7 @@
 -- What is written where there is room for it: the bytes of the forest's words, or of the records, in place, and all else as it was. Assumes nothing.
 use mathlib.Core.Path.{_≡_, refl, sym, ap, _∙_}
 use mathlib.Core.List.{List, [], _∷_, _++_, append-assoc}
-use Prim.Native.Nat.{ℕ, zero, suc, _+_, _*_, _/_, _%_, _≤_, _<_, _^_}
+use Prim.Native.Nat.{ℕ, _+_, _*_, _/_, _%_, _≤_, _<_, _^_}
 use native.Mathlib.Omega.{arith}
 use lib.ListN.{length, take, drop, length-append}
 use lib.Seq.{sets, sets-eq, take-at}
@@ -10,10 +10,10 @@ use Rattle.rows.specs.Forest.{Rows, Rows.none, Rows.node, size, flat}
 use Rattle.rows.proofs.Accepting.{length-flat}
 use Rattle.steps.specs.Bindings.{Binding, Binding.bind}
 use Rattle.steps.specs.Outcome.{records}
-use Rattle.output.specs.Output.{le32, put, emitRows, putRecord, emitRecords}
+use Rattle.output.specs.Output.{le32, put, emitRows, putRecord, emitRecords, Done, Copied}
 use Rattle.output.specs.Bytes.{bytesOf, WordsFit, RowsFit, RecordsFit}
 use Rattle.output.proofs.Stores.{length-le32, sets-append}
-use Rattle.output.proofs.Writing.{put-in, length-put, length-emit}
+use Rattle.output.proofs.Writing.{put-in, length-put, length-emit, emit-empty}
 use Rattle.output.proofs.Recording.{record-in, length-record}
 
 pub bytes-append : (xs ys : List ℕ) → bytesOf (xs ++ ys) ≡ bytesOf xs ++ bytesOf ys
@@ -77,7 +77,14 @@ emit-start f o h =
     let z : 0 + size f ≡ size f = omega arith in
     rw z at (emit-place f o 0 (omega arith))
 
--- and its words read back as the forest's
+-- A walk that wrote all of it, and one over no bytes, which only counts.
+pub whole : {before after : List ℕ} {f : Rows} {r : ℕ} → Done before 0 f r after → 16 * size f ≤ length before → after ≡ bytesOf (flat 0 f) ++ drop (16 * size f) before
+whole {before} {after} {f} {r} d h = d .wrote ∙ emit-start f before h
+
+pub dry : {after : List ℕ} {f : Rows} {at r : ℕ} → Done [] at f r after → (r ≡ at + size f) × (after ≡ [])
+dry {after} {f} {at} {r} d = (d .next, d .wrote ∙ emit-empty f at)
+
+-- its words read back as the forest's
 fit-append : (xs ys : List ℕ) → WordsFit xs → WordsFit ys → WordsFit (xs ++ ys)
 fit-append [] ys g h = h
 fit-append (x ∷ xs) ys g h = (g .0, fit-append xs ys (g .1) h)
@@ -128,7 +135,10 @@ records-start bs o h =
     let z : 0 + length bs ≡ length bs = omega arith in
     rw z at (records-place bs o 0 (omega arith))
 
--- and its words read back as the records'
+pub whole-copy : {before after : List ℕ} {bs : List Binding} {r : ℕ} → Copied before 0 bs r after → 12 * length bs ≤ length before → after ≡ bytesOf (records bs) ++ drop (12 * length bs) before
+whole-copy {before} {after} {bs} {r} d h = d .wrote ∙ records-start bs before h
+
+-- its words read back as the records'
 pub records-fit : (bs : List Binding) → RecordsFit bs → WordsFit (records bs)
 unfolding records
 records-fit [] g = tt

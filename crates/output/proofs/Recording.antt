@@ -1,15 +1,15 @@
 -- The laws of writing records, and the steps by which a loop shows that it wrote a list of them. Assumes nothing.
-use mathlib.Core.Path.{_≡_, refl, sym, ap, _∙_}
+use mathlib.Core.Path.{_≡_, refl, ap, _∙_}
 use mathlib.Core.Bool.{Bool, true, false, cond}
 use mathlib.Core.List.{List, [], _∷_, _++_}
 use Prim.Native.Nat.{ℕ, suc, _+_, _*_, _≤_, _<_}
 use native.Mathlib.Omega.{arith}
 use lib.ListN.{length, length-append}
-use lib.Seq.{sets, length-sets}
+use lib.Seq.{length-sets}
 use lib.Dec.{leb}
 use borrow.Author.Tests.{le-leb, lt-leb}
 use Rattle.steps.specs.Bindings.{Binding, Binding.bind}
-use Rattle.output.specs.Output.{le32, withRecord, putRecord, emitRecords, Recorded, Copied}
+use Rattle.output.specs.Output.{withRecord, putRecord, emitRecords, Recorded, Copied}
 
 record-at : (o : List ℕ) (r u x f : ℕ) (b : Bool) → leb (r * 12 + 12) (length o) ≡ b → putRecord o r u x f ≡ cond b (withRecord o r u x f) o
 unfolding putRecord

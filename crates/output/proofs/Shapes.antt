@@ -5,8 +5,8 @@ use mathlib.Core.List.{List}
 use Prim.Native.Nat.{ℕ, _+_}
 use native.Mathlib.Omega.{arith}
 use lib.Dec.{eqb}
-use borrow.Author.Tests.{eq-eqb, ne-eqb}
-use Rattle.rows.specs.Kinds.{Declarator, This, Super, Ident, Member, Computed, Assign, Arrow, Params, Arguments, Target}
+use borrow.Author.Tests.{ne-eqb}
+use Rattle.rows.specs.Kinds.{Declarator, This, Super, Ident, Member, Computed, Assign, Arrow, Params, Target}
 use Rattle.rows.specs.Forest.{Rows, Rows.none, Rows.node, size}
 use Rattle.steps.specs.Joining.{join}
 use Rattle.steps.specs.AfterSuper.{assignment}
