@@ -12,12 +12,9 @@ use Rattle.steps.specs.Joining.{join}
 use Rattle.steps.specs.AfterSuper.{assignment}
 use Rattle.steps.specs.TopInsertion.{thisDecl, argumentsDecl, headN, pastProp, accessRow, accessor}
 use Rattle.output.specs.Insertions.{argumentsRow, paramIf, paramsRow, bodyRow, accessorOf}
-use Rattle.output.proofs.Writing.{size-one, size-join}
+use Rattle.output.proofs.Writing.{size-leaf, size-one, size-join}
 
-pub size-leaf : (k a n : ℕ) → size (node k a n none none) ≡ 1
-unfolding size
-size-leaf k a n = refl
-
+-- the assignment after super
 pub size-assignment : (b : ℕ) → size (assignment b) ≡ 4
 unfolding size assignment
 size-assignment b = refl

@@ -136,7 +136,7 @@ emit-out (node k a n i s) o r h =
 pub emit-empty : (f : Rows) (r : ℕ) → emitRows [] r f ≡ []
 emit-empty f r = emit-out f [] r (omega arith)
 
--- The steps. A walker's `returns` is a term of these that looks like its code.
+-- sizes
 pub size-none : size none ≡ 0
 unfolding size
 size-none = refl
@@ -145,11 +145,15 @@ pub size-node : (k a n : ℕ) (f g : Rows) → size (node k a n f g) ≡ 1 + siz
 unfolding size
 size-node k a n f g = refl
 
+pub size-leaf : (k a n : ℕ) → size (node k a n none none) ≡ 1
+unfolding size
+size-leaf k a n = refl
+
 pub size-one : (k a n : ℕ) (f : Rows) → size (node k a n f none) ≡ 1 + size f
 unfolding size
 size-one k a n f = omega arith
 
--- nothing is written
+-- The steps: a walker's `returns` is a term of these that looks like its code. Nothing is written:
 pub nothing : (o : List ℕ) (at : ℕ) → Done o at none at o
 unfolding size emitRows
 nothing o at = record { next = omega arith; wrote = refl }
