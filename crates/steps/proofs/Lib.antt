@@ -21,3 +21,6 @@ pub mod Scanning
 pub mod Firsts
 pub mod Occurring
 pub mod Fusing
+pub mod Seeks
+pub mod Told
+pub mod Fields
