@@ -1,0 +1,63 @@
+// Names, by their bytes.
+use rows::words::cell;
+ghost use mathlib.Core.Path.{_≡_};
+ghost use Rattle.rows.specs.Names.{sameBytes, sameName, isArguments};
+ghost use Rattle.converter.specs.Given.{GivenNames};
+ghost use Rattle.converter.specs.Spelling.{isName};
+
+fn same_bytes(a: &[u8], b: &[u8]) -> bool
+    ensures { λ r. ⌜ r ≡ sameBytes (now (a .entry)) (now (b .entry)) ⌝ }
+{
+    if a.len() != b.len() {
+        return false;
+    }
+    let mut i: usize = 0;
+    while i < a.len() {
+        if a[i] != b[i] {
+            return false;
+        }
+        i += 1;
+    }
+    true
+}
+
+fn is_name(names: &[u8], k: usize) -> bool
+    ensures { λ r. ⌜ r ≡ isName (now (names .entry)) k ⌝ }
+{
+    (0 < k) & (k <= names.len() / 8)
+}
+
+// Whether name k is `arguments`.
+pub fn is_arguments(names: &[u8], text: &[u8], k: usize) -> bool
+    requires { ⌜ GivenNames (now names) (now text) ⌝ }
+    ensures { λ r. ⌜ r ≡ isArguments (now (names .entry)) (now (text .entry)) k ⌝ }
+{
+    if !is_name(names, k) {
+        return false;
+    }
+    let pair = 2 * (k - 1);
+    let start = cell(names, pair);
+    let end = start + cell(names, pair + 1);
+    same_bytes(&text[start..end], b"arguments")
+}
+
+// Whether two names are the same. A number that is no name has no bytes.
+pub fn same_name(names: &[u8], text: &[u8], j: usize, k: usize) -> bool
+    requires { ⌜ GivenNames (now names) (now text) ⌝ }
+    ensures { λ r. ⌜ r ≡ sameName (now (names .entry)) (now (text .entry)) j k ⌝ }
+{
+    let named = is_name(names, k);
+    if !is_name(names, j) {
+        return !named;
+    }
+    if !named {
+        return false;
+    }
+    let pair = 2 * (j - 1);
+    let start = cell(names, pair);
+    let end = start + cell(names, pair + 1);
+    let other = 2 * (k - 1);
+    let from = cell(names, other);
+    let to = from + cell(names, other + 1);
+    same_bytes(&text[start..end], &text[from..to])
+}
