@@ -1,2 +1,5 @@
 pub mod Given
 pub mod Spelling
+pub mod Standing
+pub mod Hits
+pub mod Refused
