@@ -11,7 +11,8 @@ use Rattle.rows.specs.Refusals.{checked}
 use Rattle.rows.specs.declared.Checked.the-variants.{Sound}
 use Rattle.rows.proofs.Accepting.{length-flat}
 use Rattle.rows.proofs.Soundness.{sound, words-long}
-use Rattle.converter.specs.Given.{GivenRows, GivenNames}
+use Rattle.spelling.specs.Spelling.{GivenNames}
+use Rattle.converter.specs.Given.{GivenRows}
 
 -- row 0 of a whole table ends at the row count
 root-end : (names : ℕ) (f : Rows) (n : ℕ) → Table names f → length (flat 0 f) ≡ 4 * n → endAt (flat 0 f) 0 ≡ n

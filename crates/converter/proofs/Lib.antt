@@ -1,5 +1,4 @@
 pub mod Stands
 pub mod Values
-pub mod Bytes
 pub mod Giving
 pub mod Turning

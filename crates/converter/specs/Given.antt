@@ -1,12 +1,11 @@
--- What the code of this crate needs to know of the bytes lent. Where `rows::check` answers Sound all of it holds (proofs/Giving.antt). Assumes nothing.
+-- What the code of this crate needs to know of the rows lent. Where `rows::check` answers Sound all of it holds (proofs/Giving.antt). Assumes nothing.
 use Prim.Native.Nat.{ℕ, _*_, _≤_, _<_}
 use mathlib.Core.Path.{_≡_}
 use mathlib.Core.List.{List}
 use lib.ListN.{length}
-use Rattle.rows.specs.Words.{words, endAt, namesIn}
+use Rattle.rows.specs.Words.{words, endAt}
 use Rattle.rows.specs.Forest.{flat, rowsAt}
 use Rattle.rows.specs.Nested.{Nested}
-use Rattle.rows.specs.Sound.{GoodName}
 
 -- the rows are n, nest, and are the words of the forest that is read from them
 pub record GivenRows (rows : List ℕ) (n : ℕ) : Type 0 where
@@ -16,7 +15,3 @@ pub record GivenRows (rows : List ℕ) (n : ℕ) : Type 0 where
   pub ends : endAt (words rows) 0 ≡ n
   pub nested : Nested (words rows) n
   pub same : flat 0 (rowsAt (words rows) 0 n) ≡ words rows
-
--- every name lies in the text
-abbrev pub GivenNames : (names text : List ℕ) → Type 0
-GivenNames names text = (k : ℕ) → 0 < k → k ≤ namesIn names → GoodName names text k

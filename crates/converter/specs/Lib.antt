@@ -1,5 +1,4 @@
 pub mod Given
-pub mod Spelling
 pub mod Standing
 pub mod Hits
 pub mod Refused

@@ -1,7 +1,5 @@
-// The converter over the rows of a table that `rows::check` accepts: the refusals 6, 7 and 8, and
-// the comparison of names.
+// The converter over the rows of a table that `rows::check` accepts: the refusals 6, 7 and 8.
 pub mod refusals;
-pub mod spelling;
 mod standing;
 
 use refusals::first_arguments;
@@ -14,7 +12,8 @@ ghost use Rattle.rows.specs.Words.{rowsIn};
 ghost use Rattle.rows.specs.Forest.{table};
 ghost use Rattle.steps.specs.Mode.{Switches, modeOf};
 ghost use Rattle.steps.specs.Outcome.{namesOf};
-ghost use Rattle.converter.specs.Given.{GivenRows, GivenNames};
+ghost use Rattle.spelling.specs.Spelling.{GivenNames};
+ghost use Rattle.converter.specs.Given.{GivenRows};
 ghost use Rattle.converter.specs.Refused.{numberOf, placeFor, turnedAway};
 
 // What the refusals 6, 7 and 8 say of a table.

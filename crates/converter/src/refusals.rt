@@ -1,5 +1,5 @@
 // Refusals 6, 7 and 8, each by one pass over the rows of a table that `rows::check` accepts.
-use crate::spelling::is_arguments;
+use spelling::is_arguments;
 use crate::standing::has;
 use crate::standing::stand;
 use crate::standing::super_bad;
@@ -20,7 +20,8 @@ ghost use Rattle.rows.specs.Words.{words, kindAt, nameAt, endAt};
 ghost use Rattle.rows.specs.Forest.{rowsAt};
 ghost use Rattle.rows.specs.declared.Found.the-variants.{At};
 ghost use Rattle.steps.specs.Refusals.{seek, sixes, outer};
-ghost use Rattle.converter.specs.Given.{GivenRows, GivenNames};
+ghost use Rattle.spelling.specs.Spelling.{GivenNames};
+ghost use Rattle.converter.specs.Given.{GivenRows};
 ghost use Rattle.converter.specs.Hits.{valueFrom, holdsAt, fieldRule};
 ghost use Rattle.converter.specs.Refused.{bindsArguments, nameRule};
 

@@ -2,8 +2,7 @@
 use rows::words::cell;
 ghost use mathlib.Core.Path.{_≡_};
 ghost use Rattle.rows.specs.Names.{sameBytes, sameName, isArguments};
-ghost use Rattle.converter.specs.Given.{GivenNames};
-ghost use Rattle.converter.specs.Spelling.{isName};
+ghost use Rattle.spelling.specs.Spelling.{isName, GivenNames};
 
 fn same_bytes(a: &[u8], b: &[u8]) -> bool
     ensures { λ r. ⌜ r ≡ sameBytes (now (a .entry)) (now (b .entry)) ⌝ }

@@ -1,12 +1,12 @@
--- `converter::spelling::same_bytes` meets its contract. Assumes nothing.
+-- `spelling::same_bytes` meets its contract. Assumes nothing.
 use mathlib.Core.Path.{_≡_, refl, sym}
 use Prim.Native.Nat.{_-_}
 use native.Mathlib.Omega.{arith}
 use borrow.Author.Needs.{needs}
 use lib.ListN.{length}
-use Rattle.converter.proofs.Bytes.{From, from-next, from-differs, from-end, bytes-apart}
-use Rattle.converter.proofs.spelling.same_bytes.Statement.{statement}
-use Rattle.converter.proofs.spelling.same_bytes.Tie as tie
+use Rattle.spelling.proofs.Bytes.{From, from-next, from-differs, from-end, bytes-apart}
+use Rattle.spelling.proofs.same_bytes.Statement.{statement}
+use Rattle.spelling.proofs.same_bytes.Tie as tie
 
 abbrev Inv-loop : tie.InvT-loop
 Inv-loop a b i₀ i = (q : length a ≡ length b) × From a b q i

@@ -7,15 +7,16 @@ use native.Mathlib.Omega.{arith}
 use native.Mathlib.Numerals.{add-one}
 use lib.Dec.{eqb, ltb, leb}
 use lib.ListN.{length, take, drop, getD, length-drop}
-use lib.Seq.{drop-cons, length-take-le}
+use lib.Seq.{drop-cons, drop-length, length-take-le}
 use borrow.Author.Tests.{ltb-true, leb-true, leb-false, ltb-false, eq-eqb, ne-eqb}
 use Rattle.rows.specs.Words.{words, namesIn}
 use Rattle.rows.specs.Names.{startOf, lengthOf, bytesOf, sameBytes, sameName, argumentsBytes, isArguments}
 use Rattle.rows.specs.Sound.{GoodName}
 use Rattle.rows.proofs.Bools.{and-left, and-right}
-use Rattle.steps.proofs.Seeks.{drop-all}
-use Rattle.converter.specs.Given.{GivenNames}
-use Rattle.converter.specs.Spelling.{isName}
+use Rattle.spelling.specs.Spelling.{isName, GivenNames}
+
+drop-all : (m : ℕ) (s : List ℕ) → length s ≡ m → drop m s ≡ []
+drop-all m s h = ap (λ (n : ℕ). drop n s) (sym h) ∙ drop-length s
 
 and-none : (x : Bool) → (x && false) ≡ false
 and-none true = refl

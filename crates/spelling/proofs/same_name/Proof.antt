@@ -1,13 +1,13 @@
--- `converter::spelling::same_name` meets its contract. Assumes nothing.
+-- `spelling::same_name` meets its contract. Assumes nothing.
 use mathlib.Core.Path.{refl, sym, _∙_}
 use Prim.Native.Nat.{_+_}
 use native.Mathlib.Omega.{arith}
 use borrow.Author.Tests.{not-true, not-false}
 use borrow.Author.Needs.{needs}
 use Rattle.rows.specs.Names.{sameName}
-use Rattle.converter.proofs.Bytes.{is-some, good, its-bytes, none-first, none-second}
-use Rattle.converter.proofs.spelling.same_name.Statement.{statement}
-use Rattle.converter.proofs.spelling.same_name.Tie as tie
+use Rattle.spelling.proofs.Bytes.{is-some, good, its-bytes, none-first, none-second}
+use Rattle.spelling.proofs.same_name.Statement.{statement}
+use Rattle.spelling.proofs.same_name.Tie as tie
 
 is-name-requires : tie.Need-is-name-requires
 is-name-requires c κs = search needs

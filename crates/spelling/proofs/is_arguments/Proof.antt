@@ -1,4 +1,4 @@
--- `converter::spelling::is_arguments` meets its contract. Assumes nothing.
+-- `spelling::is_arguments` meets its contract. Assumes nothing.
 use mathlib.Core.List.{List}
 use mathlib.Core.Path.{refl, sym, ap, _∙_}
 use Prim.Native.Nat.{ℕ}
@@ -6,9 +6,9 @@ use native.Mathlib.Omega.{arith}
 use borrow.Author.Tests.{not-true, not-false}
 use borrow.Author.Needs.{needs}
 use Rattle.rows.specs.Names.{sameBytes, argumentsBytes, isArguments}
-use Rattle.converter.proofs.Bytes.{is-some, good, its-bytes, not-arguments}
-use Rattle.converter.proofs.spelling.is_arguments.Statement.{statement}
-use Rattle.converter.proofs.spelling.is_arguments.Tie as tie
+use Rattle.spelling.proofs.Bytes.{is-some, good, its-bytes, not-arguments}
+use Rattle.spelling.proofs.is_arguments.Statement.{statement}
+use Rattle.spelling.proofs.is_arguments.Tie as tie
 
 is-name-requires : tie.Need-is-name-requires
 is-name-requires c κs = search needs
