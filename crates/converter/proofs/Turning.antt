@@ -1,25 +1,27 @@
 -- Refusals 6, 7 and 8 in their order, by what each of the passes answers; and what their answer is to the whole outcome. Assumes nothing.
 use mathlib.Core.Path.{_≡_, refl, ap, sym, _∙_}
-use mathlib.Core.Bool.{Bool, true, false, cond, not}
+use mathlib.Core.Bool.{Bool, true, false, cond, not, _||_}
 use mathlib.Core.List.{List}
-use Prim.Native.Nat.{ℕ, _+_, _*_}
+use Prim.Native.Nat.{ℕ, _+_, _*_, _≤_}
 use native.Mathlib.Omega.{arith}
-use Rattle.rows.specs.Words.{words, kindAt, nameAt}
+use lib.ListN.{length}
+use Rattle.rows.specs.Words.{words, kindAt, nameAt, rowsIn}
 use Rattle.rows.specs.First.{first}
 use Rattle.rows.specs.Forest.{Rows, Rows.none, Rows.node, size, rowsAt, table}
 use Rattle.rows.specs.Refusals.{checked}
 use Rattle.rows.specs.declared.Found.{Found}
 use Rattle.rows.specs.declared.Found.the-variants.{At, Nothing}
 use Rattle.rows.specs.declared.Checked.the-variants.{Sound}
+use Rattle.rows.proofs.Accepting.{length-flat}
 use Rattle.rows.proofs.Soundness.{words-long}
 use Rattle.steps.specs.declared.ArrowFunctionConverterMode.{ArrowFunctionConverterMode}
 use Rattle.steps.specs.declared.ArrowFunctionConverterMode.the-variants.{Disabled, Enabled, AsyncOnly}
 use Rattle.steps.specs.Mode.{Switches, modeOf, isDisabled, isEnabled, isAsyncOnly, enabled, asyncOnly}
 use Rattle.steps.specs.Naming.{namedArguments}
-use Rattle.steps.specs.Refusals.{seek, alone, sixes, outer, sevens, eights, six, seven, eight}
+use Rattle.steps.specs.Refusals.{seek, alone, sixes, outer, sevens, eights, unlessOff, six, seven, eight}
 use Rattle.steps.specs.Outcome.{Outcome, Outcome.refused, namesOf, unlessAt}
 use Rattle.steps.specs.Accepted.{Accepted}
-use Rattle.steps.proofs.Seeks.{by-rows}
+use Rattle.steps.proofs.Seeks.{by-rows, seek-below}
 use Rattle.converter.specs.Given.{GivenRows}
 use Rattle.converter.specs.Hits.{fieldRule}
 use Rattle.converter.specs.Refused.{numberOf, placeFor, unlessSuper, unlessField, unlessNamed, turnedAway, bindsArguments, nameRule}
@@ -109,3 +111,26 @@ module _ (w : Switches) (rows names text : List ℕ) where
   accepted rowLimit depthLimit s h =
       let n = none-of (six w (table rows)) (seven w (table rows)) (eight (namesOf names text) w (table rows)) h in
       record { sound = s; six-none = n .0; seven-none = n .1 .0; eight-none = n .1 .1 }
+
+-- The place of an answer is a row of the table, at most 16,384.
+unless-off : (w : Switches) (f : Found) (r : ℕ) → unlessOff w f ≡ At r → f ≡ At r
+unless-off w f r = go (enabled w || asyncOnly w)
+  where
+    go : (b : Bool) → cond b f Nothing ≡ At r → f ≡ At r
+    go true h = h
+    go false h = absurd (let z : _≡_ {A = ℕ} 0 1 = cc in omega arith)
+
+place-cases : (f6 f7 f8 : Found) (n : ℕ) → ((r : ℕ) → f6 ≡ At r → r ≤ n) → ((r : ℕ) → f7 ≡ At r → r ≤ n) → ((r : ℕ) → f8 ≡ At r → r ≤ n) → placeFor (unlessSuper f6 (unlessField f7 (unlessNamed f8 Not))) ≤ n
+place-cases (At r) f7 f8 n h6 h7 h8 = h6 r refl
+place-cases Nothing (At r) f8 n h6 h7 h8 = h7 r refl
+place-cases Nothing Nothing (At r) n h6 h7 h8 = h8 r refl
+place-cases Nothing Nothing Nothing n h6 h7 h8 = omega arith
+
+pub place-small : (w : Switches) (rows names text : List ℕ) → GivenRows rows (rowsIn rows) → placeFor (turnedAway (namesOf names text) w (table rows)) ≤ 16384
+unfolding turnedAway six seven eight
+place-small w rows names text g =
+    let sized : size (table rows) ≤ 16384 = omega (arith, length-flat 0 (table rows), ap length (g .same), words-long rows (4 * rowsIn rows) (omega (arith, g .bytes)), g .few) in
+    place-cases (six w (table rows)) (seven w (table rows)) (eight (namesOf names text) w (table rows)) 16384
+    (λ r h. let l = seek-below sixes outer outer 0 (table rows) r (unless-off w _ r h) in omega arith)
+    (λ r h. let l = seek-below (sevens w) tt tt 0 (table rows) r (unless-off w _ r h) in omega arith)
+    (λ r h. let l = seek-below (eights (namesOf names text) w) tt tt 0 (table rows) r (unless-off w _ r h) in omega arith)

@@ -50,8 +50,8 @@ impl Refused {
     }
 }
 
-// Refusals 6, 7 and 8, each over the whole table before the next. The table is one that
-// `rows::check` answers Sound for.
+// Refusals 6, 7 and 8, each over the whole table before the next. Called where `rows::check`
+// answers Sound: `given` of proofs/Giving.antt makes what is required of that.
 pub fn refusal(rows: &[u8], names: &[u8], text: &[u8], converter: ArrowFunctionConverter) -> Refused
     requires { ⌜ GivenRows (now rows) (rowsIn (now rows)) × GivenNames (now names) (now text) ⌝ }
     ensures { λ r. ⌜ ((w : Switches) → converter .mode ≡ modeOf w → r ≡ turnedAway (namesOf (now (names .entry)) (now (text .entry))) w (table (now (rows .entry)))) ⌝ }

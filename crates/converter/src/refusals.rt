@@ -1,5 +1,4 @@
 // Refusals 6, 7 and 8, each by one pass over the rows of a table that `rows::check` accepts.
-use spelling::is_arguments;
 use crate::standing::has;
 use crate::standing::stand;
 use crate::standing::super_bad;
@@ -12,6 +11,7 @@ use rows::kinds::FIELD;
 use rows::kinds::FUNCTION;
 use rows::kinds::SUPER;
 use rows::words::cell;
+use spelling::is_arguments;
 ghost use mathlib.Core.Path.{_≡_};
 ghost use mathlib.Core.Bool.{cond};
 ghost use Prim.Native.Nat.{_+_, _*_, _<_, _≤_};
@@ -107,7 +107,9 @@ fn found_at(here: bool, i: usize, later: Found) -> Found
 }
 
 // Refusal 7: the first Field whose value holds a Super, or with `arrows` an Arrow. The rows are
-// visited from the last, so that for each row the next one that counts is known.
+// visited from the last, so that the next such row is known from each row on, and the lowest Field
+// that reaches one stays. (The outermost Field of the first such row would not do: a Field's key
+// may hold a Field of its own.)
 pub fn first_field(rows: &[u8], n: usize, arrows: bool) -> Found
     requires { ⌜ GivenRows (now rows) n ⌝ }
     ensures { λ r. ⌜ r ≡ seek (fieldRule arrows) tt tt 0 (rowsAt (words (now (rows .entry))) 0 n) ⌝ }

@@ -12,7 +12,7 @@ use Rattle.rows.specs.declared.Found.the-variants.{At, Nothing}
 use Rattle.rows.specs.First.{first}
 use Rattle.rows.specs.Words.{kindAt, attrAt, nameAt, endAt}
 use Rattle.rows.specs.Forest.{Rows, Rows.none, Rows.node, size, flat}
-use Rattle.steps.specs.Refusals.{orElse, seek, alone}
+use Rattle.steps.specs.Refusals.{orElse, Rule, seek, alone}
 
 pub else-nothing : (f : Found) → orElse f Nothing ≡ f
 else-nothing (At r) = refl
@@ -85,3 +85,16 @@ module _ (B : (o k a n e : ℕ) → List ℕ → Bool) (t : (k a n : ℕ) → Ro
 -- a test that asks kind, attr and name alone
 pub by-rows : (t : (k a n : ℕ) → Bool) (ws : List ℕ) (n : ℕ) (r : Rows) → flat 0 r ≡ ws → length ws ≡ 4 * n → first (λ j. t (kindAt ws j) (attrAt ws j) (nameAt ws j)) n 0 ≡ seek (alone (λ k a n i. t k a n)) tt tt 0 r
 by-rows t ws n r q h = by-ends (λ o k a n e ws. t k a n) (λ k a n i. t k a n) (λ o k a n i ws. refl) ws n r q h
+
+-- what is found is one of the rows
+below-cases : (b : Bool) (f g : Found) (o i s r : ℕ) → (f ≡ At r → r < o + 1 + i) → (g ≡ At r → r < o + 1 + i + s) → orElse (cond b (At o) Nothing) (orElse f g) ≡ At r → r < o + (1 + i + s)
+below-cases true f g o i s r hf hg h = let q : o ≡ r = cc in omega arith
+below-cases false (At x) g o i s r hf hg h = let l = hf h in omega arith
+below-cases false Nothing g o i s r hf hg h = let l = hg h in omega arith
+
+pub seek-below : {C : Type 0} (R : Rule C) (x y : C) (o : ℕ) (t : Rows) (r : ℕ) → seek R x y o t ≡ At r → r < o + size t
+unfolding seek size
+seek-below R x y o none r h = absurd (let z : _≡_ {A = ℕ} 0 1 = cc in omega arith)
+seek-below R x y o (node k a n i s) r h =
+    below-cases (R .bad x k a n i) (seek R (R .one x k a) (R .more x k a) (o + 1) i) (seek R y y (o + 1 + size i) s) o (size i) (size s) r
+    (λ e. seek-below R (R .one x k a) (R .more x k a) (o + 1) i r e) (λ e. seek-below R y y (o + 1 + size i) s r e) h
