@@ -1,0 +1,8 @@
+pub mod Searches
+pub mod Arrays
+pub mod Storing
+pub mod Captures
+pub mod Chains
+pub mod Closing
+pub mod Finding
+pub mod Numbered

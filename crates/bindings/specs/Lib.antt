@@ -1,0 +1,3 @@
+pub mod Search
+pub mod Store
+pub mod Post
