@@ -7,9 +7,8 @@
 An answer is written by hand beside its call: the text, or the number and place of a refusal. Nothing here tests a call
 against the rules. Capitals beyond ASCII are those of Python's str.upper(), which is Unicode's full uppercase.
 """
-import sys
 
-from tables import on_one_line, runs_of
+from tables import on_one_line, runs_of, write_or_check
 
 HEAD = """\
 # Calls of base text, with the answers that document 01 and Unicode give. Made by base_calls.py.
@@ -230,23 +229,6 @@ def whole():
     return HEAD + "\n".join(LINES) + "\n"
 
 
-def main():
-    words = sys.argv[1:]
-    check = words[:1] == ["--check"]
-    if check:
-        words = words[1:]
-    if len(words) != 1:
-        sys.exit(__doc__)
-    text = whole().encode()
-    if check:
-        with open(words[0], "rb") as f:
-            if f.read() != text:
-                sys.exit("base_calls.py: %s is not what would be written" % words[0])
-    else:
-        with open(words[0], "wb") as f:
-            f.write(text)
-    print("%d calls" % COUNT)
-
-
 if __name__ == "__main__":
-    main()
+    stored = whole()
+    write_or_check(__doc__, "base_calls.py", stored, "%d calls" % COUNT)

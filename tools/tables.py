@@ -973,23 +973,24 @@ def whole():
     return HEAD + "\n".join(LINES) + "\n"
 
 
-def main():
+def write_or_check(usage, tool, text, count):
+    """Writes the text to the file that is named on the command line, or with --check compares the two."""
     words = sys.argv[1:]
     check = words[:1] == ["--check"]
     if check:
         words = words[1:]
     if len(words) != 1:
-        sys.exit(__doc__)
-    text = whole().encode()
+        sys.exit(usage)
     if check:
         with open(words[0], "rb") as f:
-            if f.read() != text:
-                sys.exit("tables.py: %s is not what would be written" % words[0])
+            if f.read() != text.encode():
+                sys.exit("%s: %s is not what would be written" % (tool, words[0]))
     else:
         with open(words[0], "wb") as f:
-            f.write(text)
-    print("%d tables" % COUNT)
+            f.write(text.encode())
+    print(count)
 
 
 if __name__ == "__main__":
-    main()
+    stored = whole()
+    write_or_check(__doc__, "tables.py", stored, "%d tables" % COUNT)
