@@ -29,7 +29,7 @@ unfoldable pub firstKind : Rows → ℕ
 firstKind none = 0
 firstKind (node k a n i s) = k
 
--- a row of kind k whose first child is of kind j is `super.p` or `super[k]`
+-- a row of kind k over a first child of kind j is a member of `super`
 abbrev pub overSuper : ℕ → ℕ → Bool
 overSuper k j = (eqb k Member || eqb k Computed) && eqb j Super
 

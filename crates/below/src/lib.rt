@@ -74,7 +74,7 @@ fn first_kind(rows: &[u8], i: usize) -> usize
     0
 }
 
-// The first child of row i, that row's first child, and the first child of that.
+// The kinds of the first child of row i, of its first child, and of that one's first child.
 fn descend(rows: &[u8], i: usize) -> Levels
     requires { ⌜ At (now rows) (rowsIn (now rows)) i ⌝ }
     ensures { λ r. ⌜ Firsts (children (words (now (rows .entry))) i) (r .one) (r .two) (r .three) (r .name) ⌝ }
@@ -109,7 +109,7 @@ fn descend(rows: &[u8], i: usize) -> Levels
     }
 }
 
-// Whether a row of that kind is `super.p` or `super[k]`, given the kind of its first child.
+// Whether a row of that kind over a first child of kind `inner` is `super.p` or `super[k]`.
 fn over_super(kind: usize, inner: usize) -> bool
     ensures { λ r. ⌜ r ≡ overSuper kind inner ⌝ }
 {
