@@ -2,3 +2,4 @@ pub mod Stands
 pub mod Values
 pub mod Giving
 pub mod Turning
+pub mod Leaving

@@ -2,3 +2,4 @@ pub mod Given
 pub mod Standing
 pub mod Hits
 pub mod Refused
+pub mod Ranged

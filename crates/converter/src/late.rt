@@ -1,0 +1,93 @@
+// Module 8: whether a Super left in place has a constructor as its nearest Function.
+use crate::plan::act_at;
+use acts::act::Spot;
+use acts::switches::Switches;
+use acts::switches::has_bit;
+use below::attr_at;
+use below::end_at;
+use below::kind_at;
+use passes::slots::DROPPED;
+use passes::slots::FREE;
+use passes::slots::OF_METHOD;
+use rows::kinds::FUNCTION;
+use rows::kinds::SUPER;
+ghost use mathlib.Core.Path.{_≡_};
+ghost use mathlib.Core.Bool.{Bool};
+ghost use Prim.Native.Nat.{ℕ};
+ghost use Rattle.rows.specs.Words.{words, rowsIn, kindAt, attrAt};
+ghost use Rattle.rows.specs.Forest.{rowsAt};
+ghost use Rattle.spelling.specs.Spelling.{GivenNames};
+ghost use Rattle.steps.specs.Outcome.{namesOf};
+ghost use Rattle.steps.specs.Context.{leavesC, lateC};
+ghost use Rattle.below.specs.Below.{At, children};
+ghost use Rattle.acts.specs.View.{switchesOf};
+ghost use Rattle.acts.specs.Deciding.{spotOf};
+ghost use Rattle.converter.specs.Ranged.{Ranged};
+
+// Whether a Super stays in the rows from `from` to `end`, outside of further Functions. The first row
+// is at `one`, the later ones are at `more`.
+fn leaves(
+    rows: &[u8],
+    names: &[u8],
+    text: &[u8],
+    switches: Switches,
+    one: Spot,
+    more: Spot,
+    from: usize,
+    end: usize,
+) -> bool
+    requires { ⌜ Ranged (now rows) from end ⌝ }
+    requires { ⌜ GivenNames (now names) (now text) ⌝ }
+    ensures { λ r. ⌜ r ≡ leavesC (namesOf (now (names .entry)) (now (text .entry))) (switchesOf switches) (spotOf one) (spotOf more) from (rowsAt (words (now (rows .entry))) from end) ⌝ }
+{
+    let mut i = from;
+    let mut q = one;
+    while i < end {
+        let kind = kind_at(rows, i);
+        let stop = end_at(rows, i);
+        if (kind == SUPER) & !(q.slot == DROPPED) {
+            return true;
+        }
+        if kind != FUNCTION {
+            let act = act_at(rows, names, text, switches, q, i, false);
+            if leaves(rows, names, text, switches, act.one, act.more, i + 1, stop) {
+                return true;
+            }
+        }
+        q = more;
+        i = stop;
+    }
+    false
+}
+
+// Whether row i is a constructor that is the nearest Function of a Super left in place.
+pub fn is_late(
+    rows: &[u8],
+    names: &[u8],
+    text: &[u8],
+    switches: Switches,
+    q: Spot,
+    i: usize,
+) -> bool
+    requires { ⌜ At (now rows) (rowsIn (now rows)) i ⌝ }
+    requires { ⌜ GivenNames (now names) (now text) ⌝ }
+    ensures { λ r. ⌜ r ≡ lateC (namesOf (now (names .entry)) (now (text .entry))) (switchesOf switches) (spotOf q) i (kindAt (words (now (rows .entry))) i) (attrAt (words (now (rows .entry))) i) (children (words (now (rows .entry))) i) ⌝ }
+{
+    let attr = attr_at(rows, i);
+    let constructor = has_bit(4, attr);
+    if !((kind_at(rows, i) == FUNCTION) & constructor) {
+        return false;
+    }
+    let context = q.context;
+    let method = q.slot == OF_METHOD;
+    let params = Spot {
+        context: context.in_params(switches, i, attr, method),
+        slot: FREE,
+    };
+    let body = Spot {
+        context: context.in_body(switches, i, attr, method),
+        slot: FREE,
+    };
+    let stop = end_at(rows, i);
+    leaves(rows, names, text, switches, params, body, i + 1, stop)
+}
