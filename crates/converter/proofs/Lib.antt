@@ -2,4 +2,3 @@ pub mod Stands
 pub mod Values
 pub mod Giving
 pub mod Turning
-pub mod Leaving

@@ -2,4 +2,3 @@ pub mod Given
 pub mod Standing
 pub mod Hits
 pub mod Refused
-pub mod Ranged

@@ -1,6 +1,4 @@
 // The converter over the rows of a table that `rows::check` accepts: the refusals 6, 7 and 8.
-mod late;
-pub mod plan;
 pub mod refusals;
 mod standing;
 

@@ -1,5 +1,5 @@
 // Module 8: whether a Super left in place has a constructor as its nearest Function.
-use crate::plan::act_at;
+use crate::act_at;
 use acts::act::Spot;
 use acts::switches::Switches;
 use acts::switches::has_bit;
@@ -22,7 +22,7 @@ ghost use Rattle.steps.specs.Context.{leavesC, lateC};
 ghost use Rattle.below.specs.Below.{At, children};
 ghost use Rattle.acts.specs.View.{switchesOf};
 ghost use Rattle.acts.specs.Deciding.{spotOf};
-ghost use Rattle.converter.specs.Ranged.{Ranged};
+ghost use Rattle.plan.specs.Ranged.{Ranged};
 
 // Whether a Super stays in the rows from `from` to `end`, outside of further Functions. The first row
 // is at `one`, the later ones are at `more`.

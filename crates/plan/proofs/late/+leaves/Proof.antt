@@ -1,4 +1,4 @@
--- `converter::late::leaves` meets its contract. Assumes nothing.
+-- `plan::late::leaves` meets its contract. Assumes nothing.
 use mathlib.Core.Path.{_≡_, refl, ap, sym, _∙_}
 use mathlib.Core.Bool.{Bool, not, _&&_}
 use native.Mathlib.Omega.{arith}
@@ -9,19 +9,19 @@ use Rattle.steps.specs.Slots.{dropped}
 use Rattle.steps.specs.Outcome.{namesOf}
 use Rattle.acts.specs.View.{switchesOf}
 use Rattle.acts.specs.Deciding.{spotOf}
-use Rattle.converter.proofs.Leaving.{Leaving, leaves-here, leaves-inside, leaves-none, function-outside, children-say, children-range, children-fewer, later-fewer, leaving-next}
+use Rattle.plan.proofs.Leaving.{Leaving, leaves-here, leaves-inside, leaves-none, function-outside, children-say, children-range, children-fewer, later-fewer, leaving-next}
 use borrow.Author.Needs.{needs}
 use Prim.Native.Nat.{ℕ, _+_, _-_, _<_}
 use borrow.Fn.Kinds.{In}
 use borrow.Fn.PlainCycle.{Measures, is, falls, and}
-use Rattle.converter.proofs.late.leaves.Reads as leaves
-use Rattle.converter.proofs.late.leaves.Kinds as leaves-kinds
-use Rattle.converter.proofs.late.+leaves.Lts-leaves as leaves-lts
+use Rattle.plan.proofs.late.leaves.Reads as leaves
+use Rattle.plan.proofs.late.leaves.Kinds as leaves-kinds
+use Rattle.plan.proofs.late.+leaves.Lts-leaves as leaves-lts
 use Rattle.below.proofs.end_at.Reads as end-at-reads
 use Rattle.below.proofs.kind_at.Reads as kind-at-reads
-use Rattle.converter.proofs.plan.act_at.Reads as act-at-reads
-use Rattle.converter.proofs.late.+leaves.{statement}
-use Rattle.converter.proofs.late.+leaves.Tie.{close}
+use Rattle.plan.proofs.act_at.Reads as act-at-reads
+use Rattle.plan.proofs.late.+leaves.{statement}
+use Rattle.plan.proofs.late.+leaves.Tie.{close}
 
 abbrev μ-leaves : Measures 3 leaves-kinds.ps ℕ
 μ-leaves κs a = a .1 .1 .1 .1 .1 .1 .1 .0 - a .1 .1 .1 .1 .1 .1 .0

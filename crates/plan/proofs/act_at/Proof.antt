@@ -1,4 +1,4 @@
--- `converter::plan::act_at` meets its contract. Assumes nothing.
+-- `plan::act_at` meets its contract. Assumes nothing.
 use Prim.Native.Nat.{ℕ}
 use mathlib.Core.Path.{_≡_, subst}
 use Rattle.rows.specs.Words.{words}
@@ -10,8 +10,8 @@ use Rattle.acts.specs.View.{switchesOf, contextOf}
 use Rattle.acts.specs.Deciding.{Does}
 use native.Mathlib.Omega.{arith}
 use borrow.Author.Needs.{needs}
-use Rattle.converter.proofs.plan.act_at.Statement.{statement}
-use Rattle.converter.proofs.plan.act_at.Tie as tie
+use Rattle.plan.proofs.act_at.Statement.{statement}
+use Rattle.plan.proofs.act_at.Tie as tie
 
 -- a fact about the words of a row, told of equal words
 same-words : (P : ℕ → ℕ → ℕ → Type 0) {k k' a a' n n' : ℕ} → k ≡ k' → a ≡ a' → n ≡ n' → P k a n → P k' a' n'

@@ -1,5 +1,6 @@
 // What is done with row i of a table, read from its bytes.
-use crate::late::is_late;
+mod late;
+
 use acts::act::Act;
 use acts::act::Spot;
 use acts::act::Words;
@@ -9,6 +10,7 @@ use below::attr_at;
 use below::kind_at;
 use below::look;
 use below::name_at;
+use late::is_late;
 use rows::kinds::IDENT;
 use spelling::is_arguments;
 ghost use mathlib.Core.Path.{_≡_};

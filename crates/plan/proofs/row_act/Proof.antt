@@ -1,4 +1,4 @@
--- `converter::plan::row_act` meets its contract. Assumes nothing.
+-- `plan::row_act` meets its contract. Assumes nothing.
 use mathlib.Core.Path.{_≡_, subst}
 use mathlib.Core.Bool.{Bool}
 use Rattle.rows.specs.Words.{words, kindAt, attrAt, nameAt}
@@ -9,8 +9,8 @@ use Rattle.below.specs.Below.{children}
 use Rattle.acts.specs.View.{switchesOf, contextOf}
 use Rattle.acts.specs.Deciding.{Does}
 use borrow.Author.Needs.{needs}
-use Rattle.converter.proofs.plan.row_act.Statement.{statement}
-use Rattle.converter.proofs.plan.row_act.Tie as tie
+use Rattle.plan.proofs.row_act.Statement.{statement}
+use Rattle.plan.proofs.row_act.Tie as tie
 
 is-late-requires : tie.Need-is-late-requires
 is-late-requires c κs = search needs

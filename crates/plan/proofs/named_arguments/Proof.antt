@@ -1,7 +1,7 @@
--- `converter::plan::named_arguments` meets its contract. Assumes nothing.
+-- `plan::named_arguments` meets its contract. Assumes nothing.
 use borrow.Author.Needs.{needs}
-use Rattle.converter.proofs.plan.named_arguments.Statement.{statement}
-use Rattle.converter.proofs.plan.named_arguments.Tie as tie
+use Rattle.plan.proofs.named_arguments.Statement.{statement}
+use Rattle.plan.proofs.named_arguments.Tie as tie
 
 is-arguments-requires : tie.Need-is-arguments-requires
 is-arguments-requires c κs = search needs

@@ -1,4 +1,4 @@
--- `converter::late::is_late` meets its contract. Assumes nothing.
+-- `plan::late::is_late` meets its contract. Assumes nothing.
 use Prim.Native.Nat.{ℕ, _+_}
 use mathlib.Core.Path.{_≡_, sym, subst}
 use Rattle.rows.specs.Words.{words, rowsIn}
@@ -8,11 +8,11 @@ use Rattle.steps.specs.Outcome.{namesOf}
 use Rattle.below.specs.Below.{children}
 use Rattle.acts.specs.View.{switchesOf}
 use Rattle.acts.specs.Deciding.{spotOf}
-use Rattle.converter.proofs.Leaving.{late-no, late-yes, leaves-as}
+use Rattle.plan.proofs.Leaving.{late-no, late-yes, leaves-as}
 use native.Mathlib.Omega.{arith}
 use borrow.Author.Needs.{needs}
-use Rattle.converter.proofs.late.is_late.Statement.{statement}
-use Rattle.converter.proofs.late.is_late.Tie as tie
+use Rattle.plan.proofs.late.is_late.Statement.{statement}
+use Rattle.plan.proofs.late.is_late.Tie as tie
 
 attr-at-requires : tie.Need-attr-at-requires
 attr-at-requires c κs = let b = c .before .before .before .pre .0 .bytes in let r = c .before .before .before .pre .0 .row in omega arith
