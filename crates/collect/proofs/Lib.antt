@@ -1,1 +1,4 @@
 pub mod Meeting
+pub mod Finishing
+pub mod Siblings
+pub mod Starting

@@ -17,7 +17,8 @@ use Rattle.bindings.proofs.Numbered.{note-capture}
 use Rattle.passes.specs.View.{opOf}
 use Rattle.passes.specs.declared.Becomes.{Becomes}
 use Rattle.passes.specs.declared.Becomes.the-variants as becomes
-use Rattle.collect.specs.Collecting.{Low, Meets, isCalled, leaveCapture}
+use Rattle.plan.specs.Frames.{OpLow}
+use Rattle.collect.specs.Collecting.{Meets, isCalled, leaveCapture}
 
 module _ (N : Names) (M : List ℕ) (cap count : ℕ) (op : Becomes) where
   abbrev met : List Binding
@@ -33,7 +34,8 @@ module _ (N : Names) (M : List ℕ) (cap count : ℕ) (op : Becomes) where
 
   module _ (u f : ℕ) (q : op ≡ becomes.Name u f) (m : Meets M cap count op met) where
     name-low : (0 < u) × ((u ≤ 2) × (f < cap))
-    name-low = subst (Low cap) q (m .frame)
+    unfolding opOf
+    name-low = subst (λ (o : Becomes). OpLow cap (opOf o)) q (m .low)
 
     name-is : noteCapture u f (binds M cap count) ≡ met
     unfolding meet opOf
@@ -53,7 +55,8 @@ module _ (N : Names) (M : List ℕ) (cap count : ℕ) (op : Becomes) where
 
   module _ (u f x : ℕ) (t : Bool) (q : op ≡ becomes.Call u f x t) (m : Meets M cap count op met) where
     call-low : (isAccessor u ≡ true) × ((f < cap) × (x < 4294967296))
-    call-low = subst (Low cap) q (m .frame)
+    unfolding opOf
+    call-low = subst (λ (o : Becomes). OpLow cap (opOf o)) q (m .low)
 
     call-is : note N u f x (binds M cap count) ≡ met
     unfolding meet opOf

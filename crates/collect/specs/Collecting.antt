@@ -1,29 +1,23 @@
 -- What the first walk needs to know of a row's act and of the array that holds the bindings. Assumes nothing.
-use mathlib.Core.Path.{_≡_}
-use mathlib.Core.Bool.{Bool, true, false, cond, _&&_}
+use mathlib.Core.Bool.{Bool, false, cond, _&&_}
 use mathlib.Core.List.{List}
 use Prim.Native.Nat.{ℕ, _≤_, _<_}
 use lib.ListN.{length}
 use Rattle.steps.specs.Acts.{Ctx, Op, Op.row, Op.drop, Op.name, Op.call}
 use Rattle.steps.specs.Bindings.{Binding}
-use Rattle.bindings.specs.Search.{isAccessor, noteCapture}
+use Rattle.bindings.specs.Search.{noteCapture}
 use Rattle.bindings.specs.Store.{Store}
+use Rattle.passes.specs.View.{opOf}
 use Rattle.passes.specs.declared.Becomes.{Becomes}
-use Rattle.passes.specs.declared.Becomes.the-variants as becomes
-
--- the frame of an act is a row that has a place in the tables, its use is one of its kind, and its property fits a word
-abbrev pub Low : (cap : ℕ) → Becomes → Type 0
-Low cap (becomes.Row k a n) = Unit {0}
-Low cap becomes.Drop = Unit {0}
-Low cap (becomes.Name u f) = (0 < u) × ((u ≤ 2) × (f < cap))
-Low cap (becomes.Call u f x t) = (isAccessor u ≡ true) × ((f < cap) × (x < 4294967296))
+use Rattle.steps.specs.Context.{Spot}
+use Rattle.plan.specs.Frames.{FramesBelow, OpLow}
 
 -- the array holds count bindings, and has room for the list bs that the act makes of them
 pub record Meets (M : List ℕ) (cap count : ℕ) (op : Becomes) (bs : List Binding) : Type 0 where
   pub store : Store M cap count
   pub cap-low : cap ≤ 16384
   pub room : length bs < cap
-  pub frame : Low cap op
+  pub low : OpLow cap (opOf op)
 
 -- it becomes `get().call(this, ..)`
 unfoldable pub isCalled : Op → Bool
@@ -35,3 +29,27 @@ isCalled (call u f x t) = t
 -- the steps' `leave`, whose capture needs no name
 unfoldable pub leaveCapture : Ctx → Op → List Binding → List Binding
 leaveCapture c op bs = cond (isCalled op && c .takesThis) (noteCapture 1 (c .thisAt) bs) bs
+
+-- what is left to do after a row's children asks: frames that have a place in the tables, and room for the list bs that it gives
+pub record Finishes (M : List ℕ) (cap count this frame : ℕ) (bs : List Binding) : Type 0 where
+  pub store : Store M cap count
+  pub cap-low : cap ≤ 16384
+  pub this-low : this < cap
+  pub frame-low : frame < cap
+  pub room : length bs < cap
+
+-- what the walk asks: the array holds count bindings, the n rows and the frames of both places have a place in the tables, and there is room for the list bs that it gives
+pub record Collects (n : ℕ) (M : List ℕ) (cap count : ℕ) (one more : Spot) (bs : List Binding) : Type 0 where
+  pub store : Store M cap count
+  pub cap-low : cap ≤ 16384
+  pub rows-low : n ≤ cap
+  pub one-low : FramesBelow cap (one .ctx)
+  pub more-low : FramesBelow cap (more .ctx)
+  pub room : length bs < cap
+
+-- the same for a whole table of n rows, and an array that holds no binding
+pub record Starts (n : ℕ) (M : List ℕ) (cap : ℕ) (bs : List Binding) : Type 0 where
+  pub store : Store M cap 0
+  pub cap-low : cap ≤ 16384
+  pub rows-low : n ≤ cap
+  pub room : length bs < cap

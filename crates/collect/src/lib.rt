@@ -1,19 +1,32 @@
 // The first walk: the bindings, "captures and accessors when first met on the walk, prop and value as
 // the frame closes".
+use acts::act::Spot;
 use acts::context::Context;
+use acts::context::at_program;
+use acts::switches::Switches;
+use below::end_at;
+use below::kind_at;
 use bindings::frame::Frame;
 use passes::Becomes;
+use passes::closes;
+use passes::slots::FREE;
+use plan::row_act;
 ghost use mathlib.Core.Path.{_≡_};
 ghost use mathlib.Core.Bool.{Bool};
 ghost use Prim.Native.Nat.{ℕ};
+ghost use Rattle.rows.specs.Words.{words, rowsIn};
+ghost use Rattle.rows.specs.Forest.{rowsAt, table};
 ghost use Rattle.spelling.specs.Spelling.{GivenNames};
 ghost use Rattle.steps.specs.Outcome.{namesOf};
 ghost use Rattle.steps.specs.Bindings as steps;
+ghost use Rattle.steps.specs.Context.{collectC, madeC};
 ghost use Rattle.bindings.specs.Store.{binds};
 ghost use Rattle.bindings.specs.Post.{Kept, Asked};
-ghost use Rattle.acts.specs.View.{contextOf};
+ghost use Rattle.acts.specs.View.{switchesOf, contextOf};
+ghost use Rattle.acts.specs.Deciding.{spotOf};
 ghost use Rattle.passes.specs.View.{opOf};
-ghost use Rattle.collect.specs.Collecting.{Meets, isCalled, leaveCapture};
+ghost use Rattle.plan.specs.Ranged.{Ranged};
+ghost use Rattle.collect.specs.Collecting.{Meets, Finishes, Collects, Starts, isCalled, leaveCapture};
 
 // What a row meets before its children.
 fn meet(op: Becomes, made: &mut [u32], cap: usize, count: usize, names: &[u8], text: &[u8]) -> usize
@@ -81,4 +94,122 @@ fn leave(op: Becomes, context: Context, made: &mut [u32], cap: usize, count: usi
     };
     let kept = opened.capture(made, cap, 1);
     kept.count
+}
+
+// What is left to do after a row's children: what it meets then, and its frame closes where it is
+// the end of one.
+fn finish(
+    op: Becomes,
+    context: Context,
+    closing: bool,
+    frame: usize,
+    made: &mut [u32],
+    cap: usize,
+    count: usize,
+) -> usize
+    requires { ⌜ Finishes (now made) cap count (context .«this_at») frame (steps.closed closing frame (leaveCapture (contextOf context) (opOf op) (binds (now made) cap count))) ⌝ }
+    ensures { λ r. ⌜ Kept (now (made .exit)) cap (steps.closed closing frame (leaveCapture (contextOf context) (opOf op) (binds (now (made .entry)) cap count))) r ⌝ }
+{
+    let left = leave(op, context, made, cap, count);
+    if !closing {
+        return left;
+    }
+    let opened = Frame {
+        row: frame,
+        count: left,
+    };
+    let kept = opened.close(made, cap);
+    kept.count
+}
+
+// The bindings that the rows from `from` to `end` add to those in the array. The first row is at
+// `one`, the later ones are at `more`.
+pub fn collect(
+    rows: &[u8],
+    names: &[u8],
+    text: &[u8],
+    switches: Switches,
+    one: Spot,
+    more: Spot,
+    from: usize,
+    end: usize,
+    made: &mut [u32],
+    cap: usize,
+    count: usize,
+) -> usize
+    requires { ⌜ Ranged (now rows) from end ⌝ }
+    requires { ⌜ GivenNames (now names) (now text) ⌝ }
+    requires { ⌜ Collects (rowsIn (now rows)) (now made) cap count (spotOf one) (spotOf more) (collectC (namesOf (now names) (now text)) (switchesOf switches) (spotOf one) (spotOf more) from (rowsAt (words (now rows)) from end) (binds (now made) cap count)) ⌝ }
+    ensures { λ r. ⌜ Kept (now (made .exit)) cap (collectC (namesOf (now (names .entry)) (now (text .entry))) (switchesOf switches) (spotOf one) (spotOf more) from (rowsAt (words (now (rows .entry))) from end) (binds (now (made .entry)) cap count)) r ⌝ }
+{
+    let mut i = from;
+    let mut q = one;
+    let mut kept = count;
+    while i < end {
+        let kind = kind_at(rows, i);
+        let stop = end_at(rows, i);
+        let act = row_act(rows, names, text, switches, q, i);
+        let op = act.op;
+        let met = meet(op, made, cap, kept, names, text);
+        let inner = collect(
+            rows,
+            names,
+            text,
+            switches,
+            act.one,
+            act.more,
+            i + 1,
+            stop,
+            made,
+            cap,
+            met,
+        );
+        let closing = closes(q.slot, kind);
+        kept = finish(
+            op,
+            q.context,
+            closing,
+            act.more.context.this_at,
+            made,
+            cap,
+            inner,
+        );
+        q = more;
+        i = stop;
+    }
+    kept
+}
+
+// The bindings of a whole table.
+pub fn make_bindings(
+    rows: &[u8],
+    names: &[u8],
+    text: &[u8],
+    switches: Switches,
+    made: &mut [u32],
+    cap: usize,
+) -> usize
+    requires { ⌜ Ranged (now rows) 0 (rowsIn (now rows)) ⌝ }
+    requires { ⌜ GivenNames (now names) (now text) ⌝ }
+    requires { ⌜ Starts (rowsIn (now rows)) (now made) cap (madeC (namesOf (now names) (now text)) (switchesOf switches) (table (now rows))) ⌝ }
+    ensures { λ r. ⌜ Kept (now (made .exit)) cap (madeC (namesOf (now (names .entry)) (now (text .entry))) (switchesOf switches) (table (now (rows .entry)))) r ⌝ }
+{
+    let start = Spot {
+        context: at_program(),
+        slot: FREE,
+    };
+    let end = rows.len() / 16;
+    collect(
+        rows,
+        names,
+        text,
+        switches,
+        start,
+        start,
+        0,
+        end,
+        made,
+        cap,
+        0,
+    )
 }

@@ -25,6 +25,7 @@ ghost use Rattle.steps.specs.Context.{actC};
 ghost use Rattle.below.specs.Below.{At, children};
 ghost use Rattle.acts.specs.View.{switchesOf, contextOf};
 ghost use Rattle.acts.specs.Deciding.{spotOf, Does};
+ghost use Rattle.plan.specs.Frames.{Small};
 
 // Of an Ident, whether its name is `arguments`.
 fn named_arguments(names: &[u8], text: &[u8], kind: usize, name: usize) -> bool
@@ -52,6 +53,7 @@ pub fn act_at(
     ensures { λ r. ⌜ Does (switchesOf switches) (contextOf (q .context))
         (steps.act (namesOf (now (names .entry)) (now (text .entry))) (switchesOf switches) late (contextOf (q .context)) (q .slot) i
         (kindAt (words (now (rows .entry))) i) (attrAt (words (now (rows .entry))) i) (nameAt (words (now (rows .entry))) i) (children (words (now (rows .entry))) i)) r ⌝ }
+    ensures { λ _. ⌜ Small (words (now (rows .entry))) i ⌝ }
 {
     let row = Words {
         kind: kind_at(rows, i),
@@ -70,6 +72,7 @@ pub fn row_act(rows: &[u8], names: &[u8], text: &[u8], switches: Switches, q: Sp
     ensures { λ r. ⌜ Does (switchesOf switches) (contextOf (q .context))
         (actC (namesOf (now (names .entry)) (now (text .entry))) (switchesOf switches) (spotOf q) i
         (kindAt (words (now (rows .entry))) i) (attrAt (words (now (rows .entry))) i) (nameAt (words (now (rows .entry))) i) (children (words (now (rows .entry))) i)) r ⌝ }
+    ensures { λ _. ⌜ Small (words (now (rows .entry))) i ⌝ }
 {
     let late = is_late(rows, names, text, switches, q, i);
     act_at(rows, names, text, switches, q, i, late)

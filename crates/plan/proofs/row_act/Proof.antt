@@ -20,9 +20,12 @@ act-at-requires c κs = search needs
 
 returns : tie.Need-returns
 unfolding actC
-returns c = subst (λ (l : Bool). Does (switchesOf (c .before .before .before .before .before .args .switches)) (contextOf (c .before .before .before .before .before .args .q .context))
-    (act (namesOf (c .before .before .before .before .before .args .names .now) (c .before .before .before .before .before .args .text .now)) (switchesOf (c .before .before .before .before .before .args .switches)) l (contextOf (c .before .before .before .before .before .args .q .context)) (c .before .before .before .before .before .args .q .slot) (c .before .before .before .before .before .args .i) (kindAt (words (c .before .before .before .before .before .args .rows .now)) (c .before .before .before .before .before .args .i)) (attrAt (words (c .before .before .before .before .before .args .rows .now)) (c .before .before .before .before .before .args .i)) (nameAt (words (c .before .before .before .before .before .args .rows .now)) (c .before .before .before .before .before .args .i)) (children (words (c .before .before .before .before .before .args .rows .now)) (c .before .before .before .before .before .args .i))) (c .act-at .result))
-    (c .before .is-late .ensures) (c .act-at .ensures)
+returns c = (
+  subst (λ (l : Bool). Does (switchesOf (c .before .before .before .before .before .args .switches)) (contextOf (c .before .before .before .before .before .args .q .context))
+      (act (namesOf (c .before .before .before .before .before .args .names .now) (c .before .before .before .before .before .args .text .now)) (switchesOf (c .before .before .before .before .before .args .switches)) l (contextOf (c .before .before .before .before .before .args .q .context)) (c .before .before .before .before .before .args .q .slot) (c .before .before .before .before .before .args .i) (kindAt (words (c .before .before .before .before .before .args .rows .now)) (c .before .before .before .before .before .args .i)) (attrAt (words (c .before .before .before .before .before .args .rows .now)) (c .before .before .before .before .before .args .i)) (nameAt (words (c .before .before .before .before .before .args .rows .now)) (c .before .before .before .before .before .args .i)) (children (words (c .before .before .before .before .before .args .rows .now)) (c .before .before .before .before .before .args .i))) (c .act-at .result))
+      (c .before .is-late .ensures) (c .act-at .ensures .0),
+  c .act-at .ensures .1,
+)
 
 pub row-act-spec : {M : Type 1} → statement M
 row-act-spec = tie.close (tie.spec is-late-requires act-at-requires returns)

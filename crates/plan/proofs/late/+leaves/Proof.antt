@@ -63,13 +63,13 @@ leaves-leaves-requires : (t : ℕ) → leaves-lts.Need-leaves-requires (leaves-c
 leaves-leaves-requires t c κs = (children-fewer (words (c .before .before .before .before .before .before .before .before .before .before .before .args .rows .now)) (rowsIn (c .before .before .before .before .before .before .before .before .before .before .before .args .rows .now)) (c .before .before .before .before .before .before .before .before .before .before .before .pre .1 .0 .nested) (c .before .before .before .before .before .before .before .loop .i) (c .before .before .before .before .before .before .before .before .before .before .before .args .end) (c .before .before .before .before .before .before .before .loop .inv .range) (c .before .before .before .before .before .before .loop-test .taken) (c .before .before .before .before .end-at .result) (c .before .before .before .before .end-at .ensures .0) (c .before .before .before .before .before .before .before .before .before .before .before .args .from) t (c .before .before .before .before .before .before .before .loop .inv .start) (c .before .before .before .before .before .before .before .before .before .before .before .pre .0), (record { bytes = c .before .before .before .before .before .before .before .before .before .before .before .pre .1 .0 .bytes; few = c .before .before .before .before .before .before .before .before .before .before .before .pre .1 .0 .few; nested = c .before .before .before .before .before .before .before .before .before .before .before .pre .1 .0 .nested; range = children-range (words (c .before .before .before .before .before .before .before .before .before .before .before .args .rows .now)) (rowsIn (c .before .before .before .before .before .before .before .before .before .before .before .args .rows .now)) (c .before .before .before .before .before .before .before .before .before .before .before .pre .1 .0 .nested) (c .before .before .before .before .before .before .before .loop .i) (c .before .before .before .before .before .before .before .before .before .before .before .args .end) (c .before .before .before .before .before .before .before .loop .inv .range) (c .before .before .before .before .before .before .loop-test .taken) (c .before .before .before .before .end-at .result) (c .before .before .before .before .end-at .ensures .0) }, c .before .before .before .before .before .before .before .before .before .before .before .pre .1 .1))
 
 leaves-returns-2 : (t : ℕ) → leaves-lts.Need-returns-2 (leaves-claims t) (leaves-at t) leaves.Post leaves-Inv-loop leaves-μ-loop
-leaves-returns-2 t c = leaves-inside (words (c .before .before .before .before .before .before .before .before .before .before .before .before .before .args .rows .now)) (rowsIn (c .before .before .before .before .before .before .before .before .before .before .before .before .before .args .rows .now)) (c .before .before .before .before .before .before .before .before .before .before .before .before .before .pre .1 .0 .nested) (namesOf (c .before .before .before .before .before .before .before .before .before .before .before .before .before .args .names .now) (c .before .before .before .before .before .before .before .before .before .before .before .before .before .args .text .now)) (switchesOf (c .before .before .before .before .before .before .before .before .before .before .before .before .before .args .switches)) (spotOf (c .before .before .before .before .before .before .before .before .before .loop .q)) (spotOf (c .before .before .before .before .before .before .before .before .before .before .before .before .before .args .more)) (c .before .before .before .before .before .before .before .before .before .loop .i) (c .before .before .before .before .before .before .before .before .before .before .before .before .before .args .end) (c .before .before .before .before .before .before .before .before .before .loop .inv .range) (c .before .before .before .before .before .before .before .before .loop-test .taken) (ap (λ (k : ℕ). eqb k Super && not (eqb (c .before .before .before .before .before .before .before .before .before .loop .q .slot) dropped)) (sym (c .before .before .before .before .before .before .before .kind-at .ensures .0)) ∙ c .before .before .before .before .if1 .left) (children-say (words (c .before .before .before .before .before .before .before .before .before .before .before .before .before .args .rows .now)) (rowsIn (c .before .before .before .before .before .before .before .before .before .before .before .before .before .args .rows .now)) (c .before .before .before .before .before .before .before .before .before .before .before .before .before .pre .1 .0 .nested) (namesOf (c .before .before .before .before .before .before .before .before .before .before .before .before .before .args .names .now) (c .before .before .before .before .before .before .before .before .before .before .before .before .before .args .text .now)) (switchesOf (c .before .before .before .before .before .before .before .before .before .before .before .before .before .args .switches)) (spotOf (c .before .before .before .before .before .before .before .before .before .loop .q)) (spotOf (c .before .before .before .before .before .before .before .before .before .before .before .before .before .args .more)) (c .before .before .before .before .before .before .before .before .before .loop .i) (c .before .before .before .before .before .before .before .before .before .before .before .before .before .args .end) (c .before .before .before .before .before .before .before .before .before .loop .inv .range) (c .before .before .before .before .before .before .before .before .loop-test .taken) (λ h. c .before .before .before .if2 .taken (c .before .before .before .before .before .before .before .kind-at .ensures .0 ∙ h)) (c .before .leaves .result) _ _ (c .before .before .before .before .before .before .end-at .result) (c .before .before .act-at .ensures .first) (c .before .before .act-at .ensures .later) (c .before .before .before .before .before .before .end-at .ensures .0) (c .before .leaves .ensures) ∙ c .if3 .taken) ∙ c .before .before .before .before .before .before .before .before .before .loop .inv .same
+leaves-returns-2 t c = leaves-inside (words (c .before .before .before .before .before .before .before .before .before .before .before .before .before .args .rows .now)) (rowsIn (c .before .before .before .before .before .before .before .before .before .before .before .before .before .args .rows .now)) (c .before .before .before .before .before .before .before .before .before .before .before .before .before .pre .1 .0 .nested) (namesOf (c .before .before .before .before .before .before .before .before .before .before .before .before .before .args .names .now) (c .before .before .before .before .before .before .before .before .before .before .before .before .before .args .text .now)) (switchesOf (c .before .before .before .before .before .before .before .before .before .before .before .before .before .args .switches)) (spotOf (c .before .before .before .before .before .before .before .before .before .loop .q)) (spotOf (c .before .before .before .before .before .before .before .before .before .before .before .before .before .args .more)) (c .before .before .before .before .before .before .before .before .before .loop .i) (c .before .before .before .before .before .before .before .before .before .before .before .before .before .args .end) (c .before .before .before .before .before .before .before .before .before .loop .inv .range) (c .before .before .before .before .before .before .before .before .loop-test .taken) (ap (λ (k : ℕ). eqb k Super && not (eqb (c .before .before .before .before .before .before .before .before .before .loop .q .slot) dropped)) (sym (c .before .before .before .before .before .before .before .kind-at .ensures .0)) ∙ c .before .before .before .before .if1 .left) (children-say (words (c .before .before .before .before .before .before .before .before .before .before .before .before .before .args .rows .now)) (rowsIn (c .before .before .before .before .before .before .before .before .before .before .before .before .before .args .rows .now)) (c .before .before .before .before .before .before .before .before .before .before .before .before .before .pre .1 .0 .nested) (namesOf (c .before .before .before .before .before .before .before .before .before .before .before .before .before .args .names .now) (c .before .before .before .before .before .before .before .before .before .before .before .before .before .args .text .now)) (switchesOf (c .before .before .before .before .before .before .before .before .before .before .before .before .before .args .switches)) (spotOf (c .before .before .before .before .before .before .before .before .before .loop .q)) (spotOf (c .before .before .before .before .before .before .before .before .before .before .before .before .before .args .more)) (c .before .before .before .before .before .before .before .before .before .loop .i) (c .before .before .before .before .before .before .before .before .before .before .before .before .before .args .end) (c .before .before .before .before .before .before .before .before .before .loop .inv .range) (c .before .before .before .before .before .before .before .before .loop-test .taken) (λ h. c .before .before .before .if2 .taken (c .before .before .before .before .before .before .before .kind-at .ensures .0 ∙ h)) (c .before .leaves .result) _ _ (c .before .before .before .before .before .before .end-at .result) (c .before .before .act-at .ensures .0 .first) (c .before .before .act-at .ensures .0 .later) (c .before .before .before .before .before .before .end-at .ensures .0) (c .before .leaves .ensures) ∙ c .if3 .taken) ∙ c .before .before .before .before .before .before .before .before .before .loop .inv .same
 
 leaves-loop-less : (t : ℕ) → leaves-lts.Need-loop-less (leaves-claims t) (leaves-at t) leaves.Post leaves-Inv-loop leaves-μ-loop
 leaves-loop-less t c = later-fewer (words (c .before .before .before .before .before .before .before .before .before .before .before .before .before .args .rows .now)) (rowsIn (c .before .before .before .before .before .before .before .before .before .before .before .before .before .args .rows .now)) (c .before .before .before .before .before .before .before .before .before .before .before .before .before .pre .1 .0 .nested) (c .before .before .before .before .before .before .before .before .before .loop .i) (c .before .before .before .before .before .before .before .before .before .before .before .before .before .args .end) (c .before .before .before .before .before .before .before .before .before .loop .inv .range) (c .before .before .before .before .before .before .before .before .loop-test .taken) (c .before .before .before .before .before .before .end-at .result) (c .before .before .before .before .before .before .end-at .ensures .0)
 
 leaves-loop-again : (t : ℕ) → leaves-lts.Need-loop-again (leaves-claims t) (leaves-at t) leaves.Post leaves-Inv-loop leaves-μ-loop
-leaves-loop-again t c = leaving-next (words (c .before .before .before .before .before .before .before .before .before .before .before .before .before .args .rows .now)) (rowsIn (c .before .before .before .before .before .before .before .before .before .before .before .before .before .args .rows .now)) (c .before .before .before .before .before .before .before .before .before .before .before .before .before .pre .1 .0 .nested) (c .before .before .before .before .before .before .before .before .before .loop .i) (c .before .before .before .before .before .before .before .before .before .before .before .before .before .args .end) (c .before .before .before .before .before .before .before .before .before .loop .inv .range) (c .before .before .before .before .before .before .before .before .loop-test .taken) (c .before .before .before .before .before .before .end-at .result) (c .before .before .before .before .before .before .end-at .ensures .0) (namesOf (c .before .before .before .before .before .before .before .before .before .before .before .before .before .args .names .now) (c .before .before .before .before .before .before .before .before .before .before .before .before .before .args .text .now)) (switchesOf (c .before .before .before .before .before .before .before .before .before .before .before .before .before .args .switches)) (spotOf (c .before .before .before .before .before .before .before .before .before .before .before .before .before .args .one)) (spotOf (c .before .before .before .before .before .before .before .before .before .before .before .before .before .args .more)) (spotOf (c .before .before .before .before .before .before .before .before .before .loop .q)) (c .before .before .before .before .before .before .before .before .before .before .before .before .before .args .from) (c .before .before .before .before .before .before .before .before .before .loop .inv) (ap (λ (k : ℕ). eqb k Super && not (eqb (c .before .before .before .before .before .before .before .before .before .loop .q .slot) dropped)) (sym (c .before .before .before .before .before .before .before .kind-at .ensures .0)) ∙ c .before .before .before .before .if1 .left) (children-say (words (c .before .before .before .before .before .before .before .before .before .before .before .before .before .args .rows .now)) (rowsIn (c .before .before .before .before .before .before .before .before .before .before .before .before .before .args .rows .now)) (c .before .before .before .before .before .before .before .before .before .before .before .before .before .pre .1 .0 .nested) (namesOf (c .before .before .before .before .before .before .before .before .before .before .before .before .before .args .names .now) (c .before .before .before .before .before .before .before .before .before .before .before .before .before .args .text .now)) (switchesOf (c .before .before .before .before .before .before .before .before .before .before .before .before .before .args .switches)) (spotOf (c .before .before .before .before .before .before .before .before .before .loop .q)) (spotOf (c .before .before .before .before .before .before .before .before .before .before .before .before .before .args .more)) (c .before .before .before .before .before .before .before .before .before .loop .i) (c .before .before .before .before .before .before .before .before .before .before .before .before .before .args .end) (c .before .before .before .before .before .before .before .before .before .loop .inv .range) (c .before .before .before .before .before .before .before .before .loop-test .taken) (λ h. c .before .before .before .if2 .taken (c .before .before .before .before .before .before .before .kind-at .ensures .0 ∙ h)) (c .before .leaves .result) _ _ (c .before .before .before .before .before .before .end-at .result) (c .before .before .act-at .ensures .first) (c .before .before .act-at .ensures .later) (c .before .before .before .before .before .before .end-at .ensures .0) (c .before .leaves .ensures) ∙ c .if3 .left)
+leaves-loop-again t c = leaving-next (words (c .before .before .before .before .before .before .before .before .before .before .before .before .before .args .rows .now)) (rowsIn (c .before .before .before .before .before .before .before .before .before .before .before .before .before .args .rows .now)) (c .before .before .before .before .before .before .before .before .before .before .before .before .before .pre .1 .0 .nested) (c .before .before .before .before .before .before .before .before .before .loop .i) (c .before .before .before .before .before .before .before .before .before .before .before .before .before .args .end) (c .before .before .before .before .before .before .before .before .before .loop .inv .range) (c .before .before .before .before .before .before .before .before .loop-test .taken) (c .before .before .before .before .before .before .end-at .result) (c .before .before .before .before .before .before .end-at .ensures .0) (namesOf (c .before .before .before .before .before .before .before .before .before .before .before .before .before .args .names .now) (c .before .before .before .before .before .before .before .before .before .before .before .before .before .args .text .now)) (switchesOf (c .before .before .before .before .before .before .before .before .before .before .before .before .before .args .switches)) (spotOf (c .before .before .before .before .before .before .before .before .before .before .before .before .before .args .one)) (spotOf (c .before .before .before .before .before .before .before .before .before .before .before .before .before .args .more)) (spotOf (c .before .before .before .before .before .before .before .before .before .loop .q)) (c .before .before .before .before .before .before .before .before .before .before .before .before .before .args .from) (c .before .before .before .before .before .before .before .before .before .loop .inv) (ap (λ (k : ℕ). eqb k Super && not (eqb (c .before .before .before .before .before .before .before .before .before .loop .q .slot) dropped)) (sym (c .before .before .before .before .before .before .before .kind-at .ensures .0)) ∙ c .before .before .before .before .if1 .left) (children-say (words (c .before .before .before .before .before .before .before .before .before .before .before .before .before .args .rows .now)) (rowsIn (c .before .before .before .before .before .before .before .before .before .before .before .before .before .args .rows .now)) (c .before .before .before .before .before .before .before .before .before .before .before .before .before .pre .1 .0 .nested) (namesOf (c .before .before .before .before .before .before .before .before .before .before .before .before .before .args .names .now) (c .before .before .before .before .before .before .before .before .before .before .before .before .before .args .text .now)) (switchesOf (c .before .before .before .before .before .before .before .before .before .before .before .before .before .args .switches)) (spotOf (c .before .before .before .before .before .before .before .before .before .loop .q)) (spotOf (c .before .before .before .before .before .before .before .before .before .before .before .before .before .args .more)) (c .before .before .before .before .before .before .before .before .before .loop .i) (c .before .before .before .before .before .before .before .before .before .before .before .before .before .args .end) (c .before .before .before .before .before .before .before .before .before .loop .inv .range) (c .before .before .before .before .before .before .before .before .loop-test .taken) (λ h. c .before .before .before .if2 .taken (c .before .before .before .before .before .before .before .kind-at .ensures .0 ∙ h)) (c .before .leaves .result) _ _ (c .before .before .before .before .before .before .end-at .result) (c .before .before .act-at .ensures .0 .first) (c .before .before .act-at .ensures .0 .later) (c .before .before .before .before .before .before .end-at .ensures .0) (c .before .leaves .ensures) ∙ c .if3 .left)
 
 leaves-loop-less-2 : (t : ℕ) → leaves-lts.Need-loop-less-2 (leaves-claims t) (leaves-at t) leaves.Post leaves-Inv-loop leaves-μ-loop
 leaves-loop-less-2 t c = later-fewer (words (c .before .before .before .before .before .before .before .before .before .before .args .rows .now)) (rowsIn (c .before .before .before .before .before .before .before .before .before .before .args .rows .now)) (c .before .before .before .before .before .before .before .before .before .before .pre .1 .0 .nested) (c .before .before .before .before .before .before .loop .i) (c .before .before .before .before .before .before .before .before .before .before .args .end) (c .before .before .before .before .before .before .loop .inv .range) (c .before .before .before .before .before .loop-test .taken) (c .before .before .before .end-at .result) (c .before .before .before .end-at .ensures .0)

@@ -1,0 +1,34 @@
+-- The walk of a whole table, from Program and from no binding. Assumes nothing.
+use mathlib.Core.Path.{_≡_, ap, sym, subst, _∙_}
+use mathlib.Core.List.{List, []}
+use Prim.Native.Nat.{ℕ, _<_}
+use lib.ListN.{length}
+use Rattle.rows.specs.Words.{rowsIn}
+use Rattle.rows.specs.Forest.{table}
+use Rattle.steps.specs.Mode.{Switches}
+use Rattle.steps.specs.Naming.{Names}
+use Rattle.steps.specs.Slots.{free}
+use Rattle.steps.specs.Acts.{Ctx}
+use Rattle.steps.specs.Bindings.{Binding}
+use Rattle.steps.specs.Context.{spot, start, collectC, madeC}
+use Rattle.bindings.specs.Store.{binds, bindsFrom}
+use Rattle.bindings.specs.Post.{Kept}
+use Rattle.plan.specs.Frames.{FramesBelow}
+use Rattle.collect.specs.Collecting.{Collects, Starts}
+
+module _ (N : Names) (w : Switches) (rows : List ℕ) {M : List ℕ} {cap : ℕ} (P : Starts (rowsIn rows) M cap (madeC N w (table rows))) {c : Ctx} (p : c ≡ start) where
+  abbrev walk : List Binding
+  walk = collectC N w (spot c free) (spot c free) 0 (table rows) (binds M cap 0)
+
+  walk-is : walk ≡ madeC N w (table rows)
+  unfolding madeC bindsFrom
+  walk-is = ap (λ (z : Ctx). collectC N w (spot z free) (spot z free) 0 (table rows) []) p
+
+  frames : FramesBelow cap c
+  frames = let h = P .store .room in subst (FramesBelow cap) (sym p) (record { this = h; super = h; arguments = h })
+
+  pub program-collects : Collects (rowsIn rows) M cap 0 (spot c free) (spot c free) walk
+  program-collects = record { store = P .store; cap-low = P .cap-low; rows-low = P .rows-low; one-low = frames; more-low = frames; room = subst (λ (l : List Binding). length l < cap) (sym walk-is) (P .room) }
+
+  pub program-kept : {M′ : List ℕ} {count : ℕ} → Kept M′ cap walk count → Kept M′ cap (madeC N w (table rows)) count
+  program-kept k = record { store = k .store; list = k .list ∙ walk-is }

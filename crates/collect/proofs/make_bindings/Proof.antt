@@ -1,0 +1,22 @@
+-- `collect::make_bindings` meets its contract. Assumes nothing.
+use Rattle.steps.specs.Outcome.{namesOf}
+use Rattle.acts.specs.View.{switchesOf}
+use Rattle.collect.proofs.Starting.{program-collects, program-kept}
+use borrow.Author.Needs.{needs}
+use Rattle.collect.proofs.make_bindings.Statement.{statement}
+use Rattle.collect.proofs.make_bindings.Tie as tie
+
+at-program-requires : tie.Need-at-program-requires
+at-program-requires c κs = search needs
+
+collect-requires : tie.Need-collect-requires
+collect-requires c κs = (c .before .before .before .before .before .before .pre .0, (c .before .before .before .before .before .before .pre .1 .0, program-collects (namesOf (c .before .before .before .before .before .before .args .names .now) (c .before .before .before .before .before .before .args .text .now)) (switchesOf (c .before .before .before .before .before .before .args .switches)) (c .before .before .before .before .before .before .args .rows .now) (c .before .before .before .before .before .before .pre .1 .1) (c .before .at-program .ensures)))
+
+same-length : tie.Need-same-length
+same-length c = search needs
+
+returns : tie.Need-returns
+returns c = program-kept (namesOf (c .before .before .before .before .before .before .before .before .before .args .names .now) (c .before .before .before .before .before .before .before .before .before .args .text .now)) (switchesOf (c .before .before .before .before .before .before .before .before .before .args .switches)) (c .before .before .before .before .before .before .before .before .before .args .rows .now) (c .before .before .before .before .before .before .before .before .before .pre .1 .1) (c .before .before .before .before .at-program .ensures) (c .before .before .collect .ensures)
+
+pub make-bindings-spec : {M : Type 1} → statement M
+make-bindings-spec = tie.close (tie.spec at-program-requires collect-requires same-length returns)

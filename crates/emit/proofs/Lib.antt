@@ -1,0 +1,5 @@
+pub mod Formed
+pub mod Planning
+pub mod Written
+pub mod Lists
+pub mod Starting

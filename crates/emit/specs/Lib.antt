@@ -1,0 +1,4 @@
+pub mod Plans
+pub mod Walkers
+pub mod Idents
+pub mod Top

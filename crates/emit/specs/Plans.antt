@@ -1,0 +1,110 @@
+-- What is written for a row, by the plan that was made for it outside the walk, and what the walkers know. Assumes nothing.
+use Prim.Native.Nat.{ℕ, _+_, _≤_, _<_}
+use mathlib.Core.Path.{_≡_}
+use mathlib.Core.Bool.{Bool, true, false}
+use mathlib.Core.List.{List}
+use lib.Dec.{eqb}
+use Rattle.rows.specs.Words.{words, rowsIn, kindAt, attrAt, nameAt, endAt}
+use Rattle.rows.specs.Forest.{Rows, Rows.none, rowsAt, table}
+use Rattle.spelling.specs.Spelling.{GivenNames}
+use Rattle.steps.specs.Mode.{Switches}
+use Rattle.steps.specs.Naming.{Names}
+use Rattle.steps.specs.Outcome.{namesOf}
+use Rattle.steps.specs.Slots.{free, wrapped}
+use Rattle.steps.specs.Super.{firstSuper}
+use Rattle.steps.specs.AfterSuper.{superCall, copy}
+use Rattle.steps.specs.ArrowToFunction.{dress}
+use Rattle.steps.specs.Acts.{Op.row}
+use Rattle.steps.specs.Bindings.{Binding, number, closes}
+use Rattle.steps.specs.Context.{Spot, spot, start, actC}
+use Rattle.steps.specs.Fused.{passOf, topS, buildS, emitS}
+use Rattle.bindings.specs.Store.{Store, binds}
+use Rattle.passes.specs.View.{opOf, Says}
+use Rattle.below.specs.Below.{children}
+use Rattle.acts.specs.View.{switchesOf, contextOf}
+use Rattle.acts.specs.Deciding.{spotOf, Does}
+use Rattle.plan.specs.Ranged.{Ranged}
+use Rattle.plan.specs.Frames.{FramesBelow, OpLow}
+use Rattle.emit.specs.declared.Walk.{Walk}
+use Rattle.emit.specs.declared.Plan.{Plan}
+use Rattle.emit.specs.Walkers.{isStatement, isFunction, isRow}
+
+-- the bindings of the array
+abbrev pub listOf : List ℕ → Walk → List Binding
+listOf M v = binds M (v .cap) (v .count)
+
+module _ (rows names text M : List ℕ) (v : Walk) where
+  -- what some rows become: the first at q, the later ones at q', in state sc where binding b is assigned
+  abbrev pub listed : (b sc : ℕ) (q q' : Spot) (i e : ℕ) → Rows
+  listed b sc q q' i e = emitS (namesOf names text) (switchesOf (v .switches)) (listOf M v) b sc q q' i (rowsAt (words rows) i e)
+
+  -- what the whole table becomes
+  abbrev pub emitted : Rows
+  emitted = emitS (namesOf names text) (switchesOf (v .switches)) (listOf M v) 0 copy (spot start free) (spot start free) 0 (table rows)
+
+  -- what a row's children become
+  abbrev pub inside : Plan → Rows
+  inside p = listed (p .pass .bind) (p .pass .scan) (spotOf (p .act .one)) (spotOf (p .act .more)) (p .row + 1) (p .end)
+
+  -- .. with the Var that goes first where a frame closes
+  abbrev pub topped : Plan → Rows
+  topped p = topS (namesOf names text) (listOf M v) (p .spot .slot) (p .words .kind) (p .frame) (inside p)
+
+  -- what the row becomes, before the rows s
+  abbrev pub built : Plan → Rows → Rows
+  built p = buildS (namesOf names text) (listOf M v) (contextOf (p .spot .context)) (p .bind) (p .pass .met) (p .pass .first) (opOf (p .act .op)) (topped p)
+
+  -- and in the Body and Return of an expression body
+  abbrev pub dressed : Plan → Rows
+  dressed p = dress (p .spot .slot) (built p) none
+
+-- the array holds the bindings of a table of n rows
+pub record Holds (M : List ℕ) (v : Walk) (n : ℕ) : Type 0 where
+  pub store : Store M (v .cap) (v .count)
+  pub cap-low : v .cap ≤ 16384
+  pub rows-low : n ≤ v .cap
+
+-- what a walker of a list needs
+pub record ListPre (rows names text M : List ℕ) (v : Walk) (b : ℕ) (q q' : Spot) (i e : ℕ) : Type 0 where
+  pub range : Ranged rows i e
+  pub named : GivenNames names text
+  pub holds : Holds M v (rowsIn rows)
+  pub bound : b ≤ 16384
+  pub first : FramesBelow (v .cap) (q .ctx)
+  pub later : FramesBelow (v .cap) (q' .ctx)
+
+-- what a kind says of its plan: the cases that need not be written
+pub record Formed (p : Plan) : Type 0 where
+  pub statement : isStatement (p .words .kind) ≡ true → (opOf (p .act .op) ≡ row (p .words .kind) (p .words .attr) (p .words .name)) × ((p .pass .met ≡ false) × (closes (p .spot .slot) (p .words .kind) ≡ false))
+  pub other : isStatement (p .words .kind) ≡ false → p .pass .first ≡ false
+  pub dressing : eqb (p .spot .slot) wrapped ≡ true → p .pass .first ≡ false
+  pub met : p .pass .met ≡ true → (opOf (p .act .op) ≡ row (p .words .kind) (p .words .attr) (p .words .name)) × (closes (p .spot .slot) (p .words .kind) ≡ false)
+  pub closing : isFunction (p .words .kind) ≡ false → closes (p .spot .slot) (p .words .kind) ≡ false
+  pub rowless : isRow (opOf (p .act .op)) ≡ false → closes (p .spot .slot) (p .words .kind) ≡ false
+
+-- three words that fit 32 bits
+abbrev pub Fit : (k a n : ℕ) → Type 0
+Fit k a n = (k < 4294967296) × ((a < 4294967296) × (n < 4294967296))
+
+-- what the walkers of a row need
+pub record RowPre (rows names text M : List ℕ) (v : Walk) (p : Plan) : Type 0 where
+  pub inner : ListPre rows names text M v (p .pass .bind) (spotOf (p .act .one)) (spotOf (p .act .more)) (p .row + 1) (p .end)
+  pub here : FramesBelow (v .cap) (contextOf (p .spot .context))
+  pub bound : p .bind ≤ 16384
+  pub framed : p .frame < v .cap
+  pub low : OpLow (v .cap) (opOf (p .act .op))
+  pub fit : Fit (p .words .kind) (p .words .attr) (p .words .name)
+  pub formed : Formed p
+
+-- the plan p of row i, at q in state sc where binding b is assigned, is that of the steps
+pub record Planned (N : Names) (M ws : List ℕ) (v : Walk) (b sc : ℕ) (q : Spot) (i : ℕ) (p : Plan) : Type 0 where
+  pub row : p .row ≡ i
+  pub end : p .end ≡ endAt ws i
+  pub spot : spotOf (p .spot) ≡ q
+  pub bind : p .bind ≡ b
+  pub kind : p .words .kind ≡ kindAt ws i
+  pub attr : p .words .attr ≡ attrAt ws i
+  pub name : p .words .name ≡ nameAt ws i
+  pub does : Does (switchesOf (v .switches)) (q .ctx) (actC N (switchesOf (v .switches)) q i (kindAt ws i) (attrAt ws i) (nameAt ws i) (children ws i)) (p .act)
+  pub frame : p .frame ≡ p .act .more .context .«this_at»
+  pub says : Says (p .pass) (passOf b sc (q .slot) (kindAt ws i) (number N (listOf M v) 1 (p .frame) 0) (firstSuper (children ws i)) (superCall (children ws i)) (opOf (p .act .op)))

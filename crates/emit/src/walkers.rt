@@ -1,0 +1,444 @@
+// The walkers: "Statements hold expressions, which hold functions and classes, which hold statements."
+// Each writes what a plan says from row `at` on, and the answer is the next row's number.
+use crate::Plan;
+use crate::Scan;
+use crate::Walk;
+use crate::identifiers::accessor_identifier;
+use crate::identifiers::captured_identifier;
+use crate::identifiers::get_this_identifier;
+use crate::plans::is_class;
+use crate::plans::is_function;
+use crate::plans::is_statement;
+use crate::plans::plan_at;
+use crate::top::insert_at_the_top;
+use acts::act::Spot;
+use acts::act::Words;
+use bindings::frame::Frame;
+use output::append;
+use output::inserted::assignment;
+use output::patch_end;
+use passes::Becomes;
+use passes::slots::WRAPPED;
+use rows::kinds;
+ghost use mathlib.Core.Path.{_≡_};
+ghost use mathlib.Core.Bool.{Bool, true, false, _||_};
+ghost use lib.Dec.{eqb};
+ghost use Prim.Native.Nat.{ℕ, _+_, _*_, _-_, _<_, _≤_, _^_};
+ghost use Rattle.rows.specs.Kinds.{Ident, Member, Call};
+ghost use Rattle.rows.specs.Forest.{Rows.none, Rows.node, size};
+ghost use Rattle.steps.specs.Outcome.{namesOf};
+ghost use Rattle.steps.specs.Slots.{wrapped};
+ghost use Rattle.steps.specs.Bindings.{number};
+ghost use Rattle.acts.specs.Deciding.{spotOf};
+ghost use Rattle.output.specs.Output.{Done};
+ghost use Rattle.emit.specs.Walkers.{isStatement};
+ghost use Rattle.emit.specs.Idents.{thisRow};
+ghost use Rattle.emit.specs.Plans.{listOf, listed, inside, topped, built, dressed, ListPre, RowPre, Fit};
+
+const EXPR_STMT: u32 = kinds::EXPR_STMT as u32;
+
+const RETURN: u32 = kinds::RETURN as u32;
+
+const MEMBER: u32 = kinds::MEMBER as u32;
+
+const CALL: u32 = kinds::CALL as u32;
+
+const BODY: u32 = kinds::BODY as u32;
+
+const SEQUENCE: u32 = kinds::SEQUENCE as u32;
+
+// A list of siblings, the first at `one`, the later ones at `more`.
+pub fn list(
+    rows: &[u8],
+    names: &[u8],
+    text: &[u8],
+    made: &[u32],
+    walk: Walk,
+    scan: Scan,
+    one: Spot,
+    more: Spot,
+    from: usize,
+    end: usize,
+    out: &mut [u8],
+    at: usize,
+) -> usize
+    requires { ⌜ ListPre (now rows) (now names) (now text) (now made) walk (scan .bind) (spotOf one) (spotOf more) from end ⌝ }
+    requires { ⌜ at + size (listed (now rows) (now names) (now text) (now made) walk (scan .bind) (scan .state) (spotOf one) (spotOf more) from end) < 2 ^ 32 ⌝ }
+    ensures { λ r. ⌜ Done (now (out .entry)) at (listed (now (rows .entry)) (now (names .entry)) (now (text .entry)) (now (made .entry)) walk (scan .bind) (scan .state) (spotOf one) (spotOf more) from end) r (now (out .exit)) ⌝ }
+{
+    let mut i = from;
+    let mut q = one;
+    let mut state = scan.state;
+    let mut next = at;
+    while i < end {
+        let here = Scan {
+            bind: scan.bind,
+            state,
+        };
+        let plan = plan_at(rows, names, text, made, walk, here, q, i);
+        let statement_kind = is_statement(plan.words.kind);
+        if statement_kind & !(plan.spot.slot == WRAPPED) {
+            next = statement(rows, names, text, made, walk, plan, out, next);
+        } else {
+            next = expression(rows, names, text, made, walk, plan, out, next);
+        }
+        i = plan.end;
+        q = more;
+        state = plan.pass.next;
+    }
+    next
+}
+
+// What stands inside of a row.
+fn children(
+    rows: &[u8],
+    names: &[u8],
+    text: &[u8],
+    made: &[u32],
+    walk: Walk,
+    plan: Plan,
+    out: &mut [u8],
+    at: usize,
+) -> usize
+    requires { ⌜ RowPre (now rows) (now names) (now text) (now made) walk plan ⌝ }
+    requires { ⌜ at + size (inside (now rows) (now names) (now text) (now made) walk plan) < 2 ^ 32 ⌝ }
+    ensures { λ r. ⌜ Done (now (out .entry)) at (inside (now (rows .entry)) (now (names .entry)) (now (text .entry)) (now (made .entry)) walk plan) r (now (out .exit)) ⌝ }
+{
+    let scan = Scan {
+        bind: plan.pass.bind,
+        state: plan.pass.scan,
+    };
+    list(
+        rows,
+        names,
+        text,
+        made,
+        walk,
+        scan,
+        plan.act.one,
+        plan.act.more,
+        plan.row + 1,
+        plan.end,
+        out,
+        at,
+    )
+}
+
+// A row of these words around what stands inside.
+fn around(
+    rows: &[u8],
+    names: &[u8],
+    text: &[u8],
+    made: &[u32],
+    walk: Walk,
+    plan: Plan,
+    head: Words,
+    out: &mut [u8],
+    at: usize,
+) -> usize
+    requires { ⌜ RowPre (now rows) (now names) (now text) (now made) walk plan ⌝ }
+    requires { ⌜ Fit (head .kind) (head .attr) (head .name) ⌝ }
+    requires { ⌜ at + (1 + size (inside (now rows) (now names) (now text) (now made) walk plan)) < 2 ^ 32 ⌝ }
+    ensures { λ r. ⌜ Done (now (out .entry)) at (node (head .kind) (head .attr) (head .name) (inside (now (rows .entry)) (now (names .entry)) (now (text .entry)) (now (made .entry)) walk plan) none) r (now (out .exit)) ⌝ }
+{
+    let first = append(
+        out,
+        at,
+        head.kind as u32,
+        head.attr as u32,
+        head.name as u32,
+        0,
+    );
+    let next = children(rows, names, text, made, walk, plan, out, first);
+    patch_end(out, at, next as u32);
+    next
+}
+
+// A statement, and behind the first direct `super(..)` of a list the assignment, as a statement.
+fn statement(
+    rows: &[u8],
+    names: &[u8],
+    text: &[u8],
+    made: &[u32],
+    walk: Walk,
+    plan: Plan,
+    out: &mut [u8],
+    at: usize,
+) -> usize
+    requires { ⌜ RowPre (now rows) (now names) (now text) (now made) walk plan ⌝ }
+    requires { ⌜ (isStatement (plan .words .kind) ≡ true) × (eqb (plan .spot .slot) wrapped ≡ false) ⌝ }
+    requires { ⌜ at + size (dressed (now rows) (now names) (now text) (now made) walk plan) < 2 ^ 32 ⌝ }
+    ensures { λ r. ⌜ Done (now (out .entry)) at (dressed (now (rows .entry)) (now (names .entry)) (now (text .entry)) (now (made .entry)) walk plan) r (now (out .exit)) ⌝ }
+{
+    let next = around(rows, names, text, made, walk, plan, plan.words, out, at);
+    if !plan.pass.first {
+        return next;
+    }
+    let inner = append(out, next, EXPR_STMT, 0, 0, 0);
+    let last = assignment(out, inner, plan.bind as u32);
+    patch_end(out, next, last as u32);
+    last
+}
+
+// An expression; as the body of an Arrow that becomes a Function, in a Body with one Return.
+fn expression(
+    rows: &[u8],
+    names: &[u8],
+    text: &[u8],
+    made: &[u32],
+    walk: Walk,
+    plan: Plan,
+    out: &mut [u8],
+    at: usize,
+) -> usize
+    requires { ⌜ RowPre (now rows) (now names) (now text) (now made) walk plan ⌝ }
+    requires { ⌜ plan .pass .first ≡ false ⌝ }
+    requires { ⌜ at + size (dressed (now rows) (now names) (now text) (now made) walk plan) < 2 ^ 32 ⌝ }
+    ensures { λ r. ⌜ Done (now (out .entry)) at (dressed (now (rows .entry)) (now (names .entry)) (now (text .entry)) (now (made .entry)) walk plan) r (now (out .exit)) ⌝ }
+{
+    if plan.spot.slot == WRAPPED {
+        let body = append(out, at, BODY, 0, 0, 0);
+        let inner = append(out, body, RETURN, 0, 0, 0);
+        let next = undressed(rows, names, text, made, walk, plan, out, inner);
+        patch_end(out, body, next as u32);
+        patch_end(out, at, next as u32);
+        return next;
+    }
+    undressed(rows, names, text, made, walk, plan, out, at)
+}
+
+// By what becomes of the row.
+fn undressed(
+    rows: &[u8],
+    names: &[u8],
+    text: &[u8],
+    made: &[u32],
+    walk: Walk,
+    plan: Plan,
+    out: &mut [u8],
+    at: usize,
+) -> usize
+    requires { ⌜ RowPre (now rows) (now names) (now text) (now made) walk plan ⌝ }
+    requires { ⌜ plan .pass .first ≡ false ⌝ }
+    requires { ⌜ at + size (built (now rows) (now names) (now text) (now made) walk plan none) < 2 ^ 32 ⌝ }
+    ensures { λ r. ⌜ Done (now (out .entry)) at (built (now (rows .entry)) (now (names .entry)) (now (text .entry)) (now (made .entry)) walk plan none) r (now (out .exit)) ⌝ }
+{
+    if plan.pass.met {
+        return sequence(rows, names, text, made, walk, plan, out, at);
+    }
+    let act = plan.act;
+    let op = act.op;
+    match op {
+        Becomes::Row { kind, attr, name } => {
+            let head = Words { kind, attr, name };
+            kept(rows, names, text, made, walk, plan, head, out, at)
+        }
+        Becomes::Drop => children(rows, names, text, made, walk, plan, out, at),
+        Becomes::Name { usage, frame } => {
+            captured_identifier(made, walk.cap, usage, frame, out, at)
+        }
+        Becomes::Call {
+            usage,
+            frame,
+            property,
+            called,
+        } => {
+            if called {
+                return transform_call_expression_for_super(
+                    rows,
+                    names,
+                    text,
+                    made,
+                    walk,
+                    plan,
+                    frame,
+                    usage,
+                    property,
+                    out,
+                    at,
+                );
+            }
+            transform_member_expression_for_super(
+                rows,
+                names,
+                text,
+                made,
+                walk,
+                plan,
+                frame,
+                usage,
+                property,
+                out,
+                at,
+            )
+        }
+    }
+}
+
+// A row that stays a row, by its kind.
+fn kept(
+    rows: &[u8],
+    names: &[u8],
+    text: &[u8],
+    made: &[u32],
+    walk: Walk,
+    plan: Plan,
+    head: Words,
+    out: &mut [u8],
+    at: usize,
+) -> usize
+    requires { ⌜ RowPre (now rows) (now names) (now text) (now made) walk plan ⌝ }
+    requires { ⌜ Fit (head .kind) (head .attr) (head .name) ⌝ }
+    requires { ⌜ at + (1 + size (topped (now rows) (now names) (now text) (now made) walk plan)) < 2 ^ 32 ⌝ }
+    ensures { λ r. ⌜ Done (now (out .entry)) at (node (head .kind) (head .attr) (head .name) (topped (now (rows .entry)) (now (names .entry)) (now (text .entry)) (now (made .entry)) walk plan) none) r (now (out .exit)) ⌝ }
+{
+    if is_function(plan.words.kind) {
+        return function(rows, names, text, made, walk, plan, head, out, at);
+    }
+    if is_class(plan.words.kind) {
+        return class(rows, names, text, made, walk, plan, head, out, at);
+    }
+    around(rows, names, text, made, walk, plan, head, out, at)
+}
+
+// A part of a function, or another row that may close a frame: the frame's Var goes first.
+fn function(
+    rows: &[u8],
+    names: &[u8],
+    text: &[u8],
+    made: &[u32],
+    walk: Walk,
+    plan: Plan,
+    head: Words,
+    out: &mut [u8],
+    at: usize,
+) -> usize
+    requires { ⌜ RowPre (now rows) (now names) (now text) (now made) walk plan ⌝ }
+    requires { ⌜ Fit (head .kind) (head .attr) (head .name) ⌝ }
+    requires { ⌜ at + (1 + size (topped (now rows) (now names) (now text) (now made) walk plan)) < 2 ^ 32 ⌝ }
+    ensures { λ r. ⌜ Done (now (out .entry)) at (node (head .kind) (head .attr) (head .name) (topped (now (rows .entry)) (now (names .entry)) (now (text .entry)) (now (made .entry)) walk plan) none) r (now (out .exit)) ⌝ }
+{
+    let first = append(
+        out,
+        at,
+        head.kind as u32,
+        head.attr as u32,
+        head.name as u32,
+        0,
+    );
+    let inner = insert_at_the_top(made, walk, plan, out, first);
+    let next = children(rows, names, text, made, walk, plan, out, inner);
+    patch_end(out, at, next as u32);
+    next
+}
+
+// A Class or a member of one: heritage, keys and values stand inside.
+fn class(
+    rows: &[u8],
+    names: &[u8],
+    text: &[u8],
+    made: &[u32],
+    walk: Walk,
+    plan: Plan,
+    head: Words,
+    out: &mut [u8],
+    at: usize,
+) -> usize
+    requires { ⌜ RowPre (now rows) (now names) (now text) (now made) walk plan ⌝ }
+    requires { ⌜ Fit (head .kind) (head .attr) (head .name) ⌝ }
+    requires { ⌜ at + (1 + size (inside (now rows) (now names) (now text) (now made) walk plan)) < 2 ^ 32 ⌝ }
+    ensures { λ r. ⌜ Done (now (out .entry)) at (node (head .kind) (head .attr) (head .name) (inside (now (rows .entry)) (now (names .entry)) (now (text .entry)) (now (made .entry)) walk plan) none) r (now (out .exit)) ⌝ }
+{
+    around(rows, names, text, made, walk, plan, head, out, at)
+}
+
+// A called Super, in a Sequence with the assignment.
+fn sequence(
+    rows: &[u8],
+    names: &[u8],
+    text: &[u8],
+    made: &[u32],
+    walk: Walk,
+    plan: Plan,
+    out: &mut [u8],
+    at: usize,
+) -> usize
+    requires { ⌜ RowPre (now rows) (now names) (now text) (now made) walk plan ⌝ }
+    requires { ⌜ (plan .pass .met ≡ true) × (plan .pass .first ≡ false) ⌝ }
+    requires { ⌜ at + size (built (now rows) (now names) (now text) (now made) walk plan none) < 2 ^ 32 ⌝ }
+    ensures { λ r. ⌜ Done (now (out .entry)) at (built (now (rows .entry)) (now (names .entry)) (now (text .entry)) (now (made .entry)) walk plan none) r (now (out .exit)) ⌝ }
+{
+    let first = append(out, at, SEQUENCE, 0, 0, 0);
+    let next = around(rows, names, text, made, walk, plan, plan.words, out, first);
+    let last = assignment(out, next, plan.bind as u32);
+    patch_end(out, at, last as u32);
+    last
+}
+
+// A Call of an accessor: `super.p`, `super[k]`, or an assignment to one of them.
+fn transform_member_expression_for_super(
+    rows: &[u8],
+    names: &[u8],
+    text: &[u8],
+    made: &[u32],
+    walk: Walk,
+    plan: Plan,
+    frame: usize,
+    usage: usize,
+    property: usize,
+    out: &mut [u8],
+    at: usize,
+) -> usize
+    requires { ⌜ RowPre (now rows) (now names) (now text) (now made) walk plan ⌝ }
+    requires { ⌜ (frame < walk .cap) × ((eqb usage 3 || eqb usage 4) ≡ true) ⌝ }
+    requires { ⌜ at + (2 + size (inside (now rows) (now names) (now text) (now made) walk plan)) < 2 ^ 32 ⌝ }
+    ensures { λ r. ⌜ Done (now (out .entry)) at (node Call 0 0 (node Ident 1 (number (namesOf (now (names .entry)) (now (text .entry))) (listOf (now (made .entry)) walk) usage frame property) none (inside (now (rows .entry)) (now (names .entry)) (now (text .entry)) (now (made .entry)) walk plan)) none) r (now (out .exit)) ⌝ }
+{
+    let callee = append(out, at, CALL, 0, 0, 0);
+    let cap = walk.cap;
+    let opened = Frame {
+        row: frame,
+        count: walk.count,
+    };
+    let first = accessor_identifier(names, text, made, cap, opened, usage, property, out, callee);
+    let next = children(rows, names, text, made, walk, plan, out, first);
+    patch_end(out, at, next as u32);
+    next
+}
+
+// `super.m(a)` becomes `get().call(this, a)`: the callee, and the new This.
+fn transform_call_expression_for_super(
+    rows: &[u8],
+    names: &[u8],
+    text: &[u8],
+    made: &[u32],
+    walk: Walk,
+    plan: Plan,
+    frame: usize,
+    usage: usize,
+    property: usize,
+    out: &mut [u8],
+    at: usize,
+) -> usize
+    requires { ⌜ RowPre (now rows) (now names) (now text) (now made) walk plan ⌝ }
+    requires { ⌜ (frame < walk .cap) × ((eqb usage 3 || eqb usage 4) ≡ true) ⌝ }
+    requires { ⌜ at + (4 + size (inside (now rows) (now names) (now text) (now made) walk plan)) < 2 ^ 32 ⌝ }
+    ensures { λ r. ⌜ Done (now (out .entry)) at (node Member 1 0 (node Call 0 0 (node Ident 1 (number (namesOf (now (names .entry)) (now (text .entry))) (listOf (now (made .entry)) walk) usage frame property) none (inside (now (rows .entry)) (now (names .entry)) (now (text .entry)) (now (made .entry)) walk plan)) none) (thisRow (now (made .entry)) (walk .cap) (plan .spot .context .«takes_this») (plan .spot .context .«this_at»))) r (now (out .exit)) ⌝ }
+{
+    let call = append(out, at, MEMBER, 1, 0, 0);
+    let this = transform_member_expression_for_super(
+        rows,
+        names,
+        text,
+        made,
+        walk,
+        plan,
+        frame,
+        usage,
+        property,
+        out,
+        call,
+    );
+    patch_end(out, at, this as u32);
+    get_this_identifier(made, walk.cap, plan.spot.context, out, this)
+}

@@ -1,0 +1,3 @@
+pub mod Links
+pub mod Declaring
+pub mod Tops
