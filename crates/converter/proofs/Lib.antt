@@ -2,3 +2,9 @@ pub mod Stands
 pub mod Values
 pub mod Giving
 pub mod Turning
+pub mod Copying
+pub mod Answering
+pub mod Owning
+pub mod Readying
+pub mod Spaces
+pub mod Small

@@ -1,8 +1,11 @@
 -- What the entries answer in numbers, and what they leave in the bytes lent. "An entry's promise covers every number returned and every word lent, refusals too". Assumes nothing.
 use Prim.Native.Nat.{ℕ}
 use mathlib.Core.Path.{_≡_}
+use mathlib.Core.Bool.{Bool, not}
 use mathlib.Core.List.{List, _++_}
+use lib.Dec.{eqb}
 use lib.ListN.{take, drop}
+use Rattle.steps.specs.Mode.{Switches, switches}
 use Rattle.base_text.specs.Refusals.{numberOf, placeOf, countOf}
 use Rattle.base_text.specs.declared.Spelling.{Spelling}
 
@@ -12,3 +15,10 @@ pub record BaseTextAnswered (refusal place bytes : ℕ) (answer : Spelling) (tex
   pub placed : place ≡ placeOf answer
   pub counted : bytes ≡ countOf answer
   pub written : after ≡ take (countOf answer) text ++ drop (countOf answer) before
+
+-- Convert: a switch is on where it is not 0. What it answers is `Answers` of the converter's specs/Converting.antt, in these numbers.
+abbrev pub on : ℕ → Bool
+on x = not (eqb x 0)
+
+abbrev pub switchesFrom : (arrow asyncToGenerator asyncGeneratorFunctions : ℕ) → Switches
+switchesFrom arrow asyncToGenerator asyncGeneratorFunctions = switches (on arrow) (on asyncToGenerator) (on asyncGeneratorFunctions)

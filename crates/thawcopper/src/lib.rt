@@ -1,11 +1,16 @@
 // The C boundary: what a host links against. A slice is a pointer and a length, words are
 // little-endian. Every input is answered, and a refusal leaves what was lent as it was.
+use acts::switches::Switches;
 use base_text::Spelling;
+use converter::answer::Converted;
+use converter::convert;
 ghost use mathlib.Core.Path.{_≡_};
-ghost use Prim.Native.Nat.{ℕ};
+ghost use Prim.Native.Nat.{ℕ, _<_, _^_};
 ghost use lib.ListN.{length};
 ghost use Rattle.base_text.specs.Refusals.{numberOf, placeOf, countOf, baseText, spelled};
-ghost use Rattle.thawcopper.specs.Entries.{BaseTextAnswered};
+ghost use Rattle.converter.specs.Answer as answers;
+ghost use Rattle.converter.specs.Converting.{outcomeOf, Answers, KeepsOwners};
+ghost use Rattle.thawcopper.specs.Entries.{BaseTextAnswered, switchesFrom};
 
 // What base text answers: document 01's number and place, and how many bytes were written.
 #[repr(C)]
@@ -53,4 +58,55 @@ pub extern "C" fn thawcopper_base_text(
         (baseText number (now (bindings .entry)) (now (names .entry)) (now (text .entry))) (now (out .entry)) (now (out .exit)) ⌝ }
 {
     numbers_of(base_text::base_text(number, bindings, names, text, out))
+}
+
+// What convert answers: document 01's number and place, and how many rows and bindings were written.
+#[repr(C)]
+pub struct Answer {
+    pub refusal: u32,
+    pub place: u32,
+    pub rows: u32,
+    pub bindings: u32,
+}
+
+// The numbers of an answer that fits 32 bits.
+fn answer_of(converted: Converted) -> Answer
+    requires { ⌜ (answers.placeOf converted < 2 ^ 32) × ((answers.rowsOf converted < 2 ^ 32) × (answers.bindingsOf converted < 2 ^ 32)) ⌝ }
+    ensures { λ r. ⌜ (r .refusal ≡ answers.numberOf converted) × (r .place ≡ answers.placeOf converted) × (r .rows ≡ answers.rowsOf converted) × (r .bindings ≡ answers.bindingsOf converted) ⌝ }
+{
+    let refusal = converted.number();
+    let place = converted.place() as u32;
+    let rows = converted.rows() as u32;
+    let bindings = converted.bindings() as u32;
+    Answer {
+        refusal,
+        place,
+        rows,
+        bindings,
+    }
+}
+
+// Converts a table: the rows of the result go to the front of `out_rows`, the records of its bindings
+// to the front of `out_bindings`. A switch is on where it is not 0.
+#[no_mangle]
+pub extern "C" fn thawcopper_convert(
+    arrow: u32,
+    async_to_generator: u32,
+    async_generator_functions: u32,
+    rows: &[u8],
+    names: &[u8],
+    text: &[u8],
+    out_rows: &mut [u8],
+    out_bindings: &mut [u8],
+) -> Answer
+    ensures { λ r. ⌜ Answers (outcomeOf (switchesFrom arrow «async_to_generator» «async_generator_functions») (now (rows .entry)) (now (names .entry)) (now (text .entry)) (now («out_rows» .entry)) (now («out_bindings» .entry)))
+        (r .refusal) (r .place) (r .rows) (r .bindings) (now («out_rows» .entry)) (now («out_rows» .exit)) (now («out_bindings» .entry)) (now («out_bindings» .exit)) ⌝ }
+    ensures { λ r. ⌜ KeepsOwners (switchesFrom arrow «async_to_generator» «async_generator_functions») (now (rows .entry)) (r .refusal) (r .rows) (r .bindings) (now («out_rows» .exit)) (now («out_bindings» .exit)) ⌝ }
+{
+    let switches = Switches {
+        arrow_function: arrow != 0,
+        async_to_generator: async_to_generator != 0,
+        async_generator_functions: async_generator_functions != 0,
+    };
+    answer_of(convert(switches, rows, names, text, out_rows, out_bindings))
 }

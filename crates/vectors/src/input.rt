@@ -129,15 +129,15 @@ pub struct Read {
     pub count: usize,
 }
 
-// Reads the numbers of s into words.
+// Reads the numbers of s into words. More of them than words have room for: not good.
 pub fn numbers(s: &[u8], words: &mut [u32]) -> Read
-    ensures { λ r. ⌜ r .count ≤ 65536 ⌝ }
+    ensures { λ r. ⌜ r .count ≤ length (now (words .entry)) ⌝ }
 {
     let mut at = skip(s, 0);
     let mut count: usize = 0;
     while at < s.len() {
         let n = number_at(s, at);
-        if 65535 < count {
+        if words.len() <= count {
             return Read { good: false, count };
         }
         if !n.good {

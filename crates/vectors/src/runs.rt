@@ -222,14 +222,15 @@ fn put_items(out: &mut [u8], room: usize, from: usize, first: Item, times: u32, 
 }
 
 // A part of a table: how many bytes it has, and the word after it.
-struct Part {
-    good: bool,
-    len: usize,
-    at: usize,
+pub struct Part {
+    pub good: bool,
+    pub len: usize,
+    pub at: usize,
 }
 
-// The runs of a part: how many there are, and each one's item, times and step.
-fn runs(words: &[u32], from: usize, out: &mut [u8], room: usize, width: usize) -> Part
+// The runs of a part: how many there are, and each one's item, times and step. An item has `width` words: 4
+// for a row, 3 for a record, 2 for a pair, 1 for a byte.
+pub fn runs(words: &[u32], from: usize, out: &mut [u8], room: usize, width: usize) -> Part
     requires { ⌜ (from ≤ 137438953472) × (room ≤ 786448) × (width ≤ 4) ⌝ }
     ensures { λ r. ⌜ (r .len ≤ room) × (from < r .at) × (r .at ≤ from + 34359738368) ⌝ }
 {
@@ -307,7 +308,7 @@ pub fn build(
     pairs: &mut [u8],
     text: &mut [u8],
 ) -> Built
-    requires { ⌜ (from ≤ 65539) × (width ≤ 4) ⌝ }
+    requires { ⌜ (from ≤ 1048576) × (width ≤ 4) ⌝ }
     ensures { λ r. ⌜ (from < r .at) × (r .at ≤ 1099511627776) ⌝ }
 {
     let f = part_with_zeros(words, from, first, least(first.len(), MOST_ROOM), width);

@@ -33,7 +33,7 @@ pub fn bad_data(n: usize, count: usize) -> Turn
 
 // Input that is too long or has a byte out of place counts as a difference.
 pub fn whole(t: Tally, good: bool) -> Tally
-    requires { ⌜ t .differ ≤ 65536 ⌝ }
+    requires { ⌜ t .differ ≤ 327680 ⌝ }
 {
     if good {
         return t;

@@ -7,7 +7,7 @@ use Rattle.vectors.proofs.input.numbers.Statement.{statement}
 use Rattle.vectors.proofs.input.numbers.Tie as tie
 
 abbrev Inv-loop : tie.InvT-loop
-Inv-loop s words₀ at₀ count₀ words at count = (length words ≡ length words₀) × (at ≤ length s) × (count ≤ 65536)
+Inv-loop s words₀ at₀ count₀ words at count = (length words ≡ length words₀) × (at ≤ length s) × (count ≤ length words₀)
 
 abbrev μ-loop : tie.MeasureT-loop
 μ-loop s words₀ at₀ count₀ words at count = length s - at

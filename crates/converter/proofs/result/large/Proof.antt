@@ -1,0 +1,27 @@
+-- `converter::result::large` meets its contract. Assumes nothing.
+use mathlib.Core.Path.{refl}
+use native.Mathlib.Omega.{arith}
+use Rattle.converter.proofs.Spaces.{zero-store}
+use borrow.Author.Needs.{needs}
+use Rattle.converter.proofs.result.large.Statement.{statement}
+use Rattle.converter.proofs.result.large.Tie as tie
+
+slice-aggregate-write-result : tie.Need-slice-aggregate-write-result
+slice-aggregate-write-result c = search needs
+
+write-result-requires : tie.Need-write-result-requires
+write-result-requires c κs = record { accepted = c .before .before .before .before .before .before .before .before .pre .0; on = c .before .before .before .before .before .before .before .before .pre .1 .0; empty = zero-store 163840 16384 refl (omega arith); low = omega arith; fits = c .before .before .before .before .before .before .before .before .pre .1 .1 }
+
+same-length : tie.Need-same-length
+same-length c = search needs
+
+same-length-2 : tie.Need-same-length-2
+same-length-2 c = search needs
+
+returns : tie.Need-returns
+returns c = search needs
+
+pub large-spec : {M : Type 1} → statement M
+large-spec =
+    tie.close
+    (tie.spec slice-aggregate-write-result write-result-requires same-length same-length-2 returns)

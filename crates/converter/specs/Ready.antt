@@ -1,0 +1,25 @@
+-- What the functions below `convert` ask and promise. Assumes nothing.
+use mathlib.Core.Path.{_≡_}
+use mathlib.Core.Bool.{true, _||_}
+use mathlib.Core.List.{List}
+use Prim.Native.Nat.{ℕ, _≤_}
+use Rattle.rows.specs.Words.{rowsIn}
+use Rattle.steps.specs.Mode.{Switches, enabled, asyncOnly}
+use Rattle.steps.specs.Accepted.{Accepted}
+use Rattle.bindings.specs.Store.{Store}
+use Rattle.converter.specs.Answer.{numberOf, placeOf, rowsOf, bindingsOf}
+use Rattle.converter.specs.Converting.{outcomeOf, Answers}
+use Rattle.converter.specs.declared.answer.Converted.{Converted}
+
+-- what the two walks are made over: a table that refusals 1 to 8 leave, in a mode that changes rows, and an empty array with room for its bindings
+pub record Ready (w : Switches) (rows names text made : List ℕ) (cap : ℕ) : Type 0 where
+  pub accepted : Accepted 16384 128 w rows names text
+  pub on : (enabled w || asyncOnly w) ≡ true
+  pub empty : Store made cap 0
+  pub low : cap ≤ 16384
+  pub fits : rowsIn rows ≤ cap
+
+-- what the functions below `convert` promise of their answer, and of the two slices before and after
+abbrev pub Gives : Switches → (rows names text : List ℕ) → Converted → (outRows outRows′ outBindings outBindings′ : List ℕ) → Type 0
+Gives w rows names text r outRows outRows′ outBindings outBindings′ =
+    Answers (outcomeOf w rows names text outRows outBindings) (numberOf r) (placeOf r) (rowsOf r) (bindingsOf r) outRows outRows′ outBindings outBindings′

@@ -1,0 +1,170 @@
+// The result of an accepted table: the two walks, over an array that is as large as the table needs.
+use crate::answer::Converted;
+use crate::copy::copy_rows;
+use crate::copy::write_records;
+use acts::switches::Switches;
+use collect::make_bindings;
+use emit::Walk;
+use emit::emit;
+ghost use mathlib.Core.Path.{_≡_};
+ghost use mathlib.Core.Bool.{true, _||_};
+ghost use Prim.Native.Nat.{ℕ, _≤_};
+ghost use Rattle.rows.specs.Words.{rowsIn};
+ghost use Rattle.steps.specs.Mode.{enabled, asyncOnly};
+ghost use Rattle.steps.specs.Accepted.{Accepted};
+ghost use Rattle.acts.specs.View.{switchesOf};
+ghost use Rattle.converter.specs.Ready.{Ready, Gives};
+
+// The bindings, the number of rows, and where there is room for both, the rows and the records.
+fn write_result(
+    switches: Switches,
+    rows: &[u8],
+    names: &[u8],
+    text: &[u8],
+    made: &mut [u32],
+    cap: usize,
+    out_rows: &mut [u8],
+    out_bindings: &mut [u8],
+) -> Converted
+    requires { ⌜ Ready (switchesOf switches) (now rows) (now names) (now text) (now made) cap ⌝ }
+    ensures { λ r. ⌜ Gives (switchesOf switches) (now (rows .entry)) (now (names .entry)) (now (text .entry)) r
+        (now («out_rows» .entry)) (now («out_rows» .exit)) (now («out_bindings» .entry)) (now («out_bindings» .exit)) ⌝ }
+{
+    let count = make_bindings(rows, names, text, switches, made, cap);
+    let walk = Walk {
+        switches,
+        cap,
+        count,
+    };
+    let mut nothing = [0u8; 0];
+    let total = emit(rows, names, text, made, walk, &mut nothing);
+    if out_rows.len() / 16 < total {
+        return Converted::NoRoom;
+    }
+    if out_bindings.len() / 12 < count {
+        return Converted::NoRoom;
+    }
+    let written = emit(rows, names, text, made, walk, out_rows);
+    let recorded = write_records(made, cap, count, out_bindings);
+    Converted::Done {
+        rows: written,
+        bindings: recorded,
+    }
+}
+
+// A table of at most 64 rows,
+fn small(
+    switches: Switches,
+    rows: &[u8],
+    names: &[u8],
+    text: &[u8],
+    out_rows: &mut [u8],
+    out_bindings: &mut [u8],
+) -> Converted
+    requires { ⌜ Accepted 16384 128 (switchesOf switches) (now rows) (now names) (now text) ⌝ }
+    requires { ⌜ ((enabled (switchesOf switches) || asyncOnly (switchesOf switches)) ≡ true) × (rowsIn (now rows) ≤ 64) ⌝ }
+    ensures { λ r. ⌜ Gives (switchesOf switches) (now (rows .entry)) (now (names .entry)) (now (text .entry)) r
+        (now («out_rows» .entry)) (now («out_rows» .exit)) (now («out_bindings» .entry)) (now («out_bindings» .exit)) ⌝ }
+{
+    let mut made = [0u32; 640];
+    write_result(
+        switches,
+        rows,
+        names,
+        text,
+        &mut made,
+        64,
+        out_rows,
+        out_bindings,
+    )
+}
+
+// of at most 1,024,
+fn middle(
+    switches: Switches,
+    rows: &[u8],
+    names: &[u8],
+    text: &[u8],
+    out_rows: &mut [u8],
+    out_bindings: &mut [u8],
+) -> Converted
+    requires { ⌜ Accepted 16384 128 (switchesOf switches) (now rows) (now names) (now text) ⌝ }
+    requires { ⌜ ((enabled (switchesOf switches) || asyncOnly (switchesOf switches)) ≡ true) × (rowsIn (now rows) ≤ 1024) ⌝ }
+    ensures { λ r. ⌜ Gives (switchesOf switches) (now (rows .entry)) (now (names .entry)) (now (text .entry)) r
+        (now («out_rows» .entry)) (now («out_rows» .exit)) (now («out_bindings» .entry)) (now («out_bindings» .exit)) ⌝ }
+{
+    let mut made = [0u32; 10240];
+    write_result(
+        switches,
+        rows,
+        names,
+        text,
+        &mut made,
+        1024,
+        out_rows,
+        out_bindings,
+    )
+}
+
+// and of at most 16,384.
+fn large(
+    switches: Switches,
+    rows: &[u8],
+    names: &[u8],
+    text: &[u8],
+    out_rows: &mut [u8],
+    out_bindings: &mut [u8],
+) -> Converted
+    requires { ⌜ Accepted 16384 128 (switchesOf switches) (now rows) (now names) (now text) ⌝ }
+    requires { ⌜ ((enabled (switchesOf switches) || asyncOnly (switchesOf switches)) ≡ true) × (rowsIn (now rows) ≤ 16384) ⌝ }
+    ensures { λ r. ⌜ Gives (switchesOf switches) (now (rows .entry)) (now (names .entry)) (now (text .entry)) r
+        (now («out_rows» .entry)) (now («out_rows» .exit)) (now («out_bindings» .entry)) (now («out_bindings» .exit)) ⌝ }
+{
+    let mut made = [0u32; 163840];
+    write_result(
+        switches,
+        rows,
+        names,
+        text,
+        &mut made,
+        16384,
+        out_rows,
+        out_bindings,
+    )
+}
+
+// The result of a table that refusals 1 to 8 leave: the rows as they are where the mode is Disabled,
+// else by the two walks.
+pub fn result(
+    switches: Switches,
+    rows: &[u8],
+    names: &[u8],
+    text: &[u8],
+    out_rows: &mut [u8],
+    out_bindings: &mut [u8],
+) -> Converted
+    requires { ⌜ Accepted 16384 128 (switchesOf switches) (now rows) (now names) (now text) ⌝ }
+    ensures { λ r. ⌜ Gives (switchesOf switches) (now (rows .entry)) (now (names .entry)) (now (text .entry)) r
+        (now («out_rows» .entry)) (now («out_rows» .exit)) (now («out_bindings» .entry)) (now («out_bindings» .exit)) ⌝ }
+{
+    let n = rows.len() / 16;
+    let enabled = switches.is_enabled();
+    let only = switches.is_async_only();
+    if !(enabled | only) {
+        if out_rows.len() / 16 < n {
+            return Converted::NoRoom;
+        }
+        let copied = copy_rows(rows, out_rows);
+        return Converted::Done {
+            rows: copied,
+            bindings: 0,
+        };
+    }
+    if n <= 64 {
+        return small(switches, rows, names, text, out_rows, out_bindings);
+    }
+    if n <= 1024 {
+        return middle(switches, rows, names, text, out_rows, out_bindings);
+    }
+    large(switches, rows, names, text, out_rows, out_bindings)
+}
