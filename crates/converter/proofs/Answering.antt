@@ -21,12 +21,12 @@ use Rattle.steps.proofs.Acceptance.{accepted-converts}
 use Rattle.output.specs.Output.{Done, Copied}
 use Rattle.output.specs.Bytes.{bytesOf}
 use Rattle.output.proofs.Placing.{rows-bytes, records-bytes, length-bytes, whole, whole-copy}
-use Rattle.converter.specs.Refused as turns
-use Rattle.converter.specs.Refused.{turnedAway}
-use Rattle.converter.specs.declared.Refused.{Refused}
-use Rattle.converter.specs.declared.Refused.the-variants.{Not, SuperNotAllowed, FieldHolds, NamedArguments}
+use Rattle.refusals.specs.Refused as turns
+use Rattle.refusals.specs.Refused.{turnedAway}
+use Rattle.refusals.specs.declared.Refused.{Refused}
+use Rattle.refusals.specs.declared.Refused.the-variants.{Not, SuperNotAllowed, FieldHolds, NamedArguments}
 use Rattle.converter.specs.Converting.{lentRoom, outcomeOf, Answers}
-use Rattle.converter.proofs.Turning.{unlessTurned, turned-outcome, accepted}
+use Rattle.refusals.proofs.Turning.{unlessTurned, turned-outcome, accepted}
 
 -- only Sound has number 0, and only Not
 pub sound-zero : (c : Checked) → checks.numberOf c ≡ 0 → c ≡ Sound

@@ -13,7 +13,7 @@ use Rattle.output.specs.Output.{put, emitRows, Appended, Done, Recorded, Copied
 use Rattle.output.proofs.Writing.{length-put}
 use Rattle.output.proofs.Loops.{RecordsLeft, all-records-left, record-turn, no-records-left}
 use Rattle.bindings.specs.Store.{useAt, propertyAt, frameAt, bindsFrom, binds}
-use Rattle.converter.specs.Given.{GivenRows}
+use Rattle.refusals.specs.Given.{GivenRows}
 
 -- rows of four words each, the first one at r
 unfoldable pub putWords : (o : List ℕ) (r : ℕ) → List ℕ → List ℕ

@@ -1,7 +1,3 @@
-pub mod Stands
-pub mod Values
-pub mod Giving
-pub mod Turning
 pub mod Copying
 pub mod Answering
 pub mod Owning

@@ -30,11 +30,11 @@ use Rattle.bindings.specs.Store.{binds}
 use Rattle.bindings.specs.Post.{Kept}
 use Rattle.bindings.proofs.Arrays.{binds-length}
 use Rattle.plan.specs.Ranged.{Ranged}
-use Rattle.converter.specs.Given.{GivenRows}
+use Rattle.refusals.specs.Given.{GivenRows}
 use Rattle.converter.specs.Ready.{Ready}
 use Rattle.converter.specs.Converting.{outcomeOf, Answers}
 use Rattle.converter.proofs.Answering.{full-rows, full-bindings, converted-all}
-use Rattle.converter.proofs.Giving.{sound-rows, sound-names}
+use Rattle.refusals.proofs.Giving.{sound-rows, sound-names}
 
 -- whether the mode changes rows, by the two flags that the code has
 pub flags : (w : Switches) (e o b : Bool) → e ≡ enabled w → o ≡ asyncOnly w → (e || o) ≡ b → (enabled w || asyncOnly w) ≡ b

@@ -19,14 +19,14 @@ use Rattle.steps.specs.Steps.{Result, steps}
 use Rattle.steps.specs.Outcome.{Outcome, Outcome.refused, Outcome.converted, namesOf, records, unlessRefused, within, outcome}
 use Rattle.steps.proofs.Acceptance.{Converted, converts, result-within, result-small}
 use Rattle.output.proofs.Placing.{records-bytes, length-bytes}
-use Rattle.converter.specs.Refused as turns
-use Rattle.converter.specs.Refused.{turnedAway}
-use Rattle.converter.specs.declared.Refused.{Refused}
-use Rattle.converter.specs.declared.Refused.the-variants.{Not, SuperNotAllowed, FieldHolds, NamedArguments}
+use Rattle.refusals.specs.Refused as turns
+use Rattle.refusals.specs.Refused.{turnedAway}
+use Rattle.refusals.specs.declared.Refused.{Refused}
+use Rattle.refusals.specs.declared.Refused.the-variants.{Not, SuperNotAllowed, FieldHolds, NamedArguments}
 use Rattle.converter.specs.Converting.{lentRoom, outcomeOf, placeIn, Answers}
-use Rattle.converter.proofs.Giving.{given}
-use Rattle.converter.proofs.Turning as turning
-use Rattle.converter.proofs.Turning.{unlessTurned, turned-outcome}
+use Rattle.refusals.proofs.Giving.{given}
+use Rattle.refusals.proofs.Turning as turning
+use Rattle.refusals.proofs.Turning.{unlessTurned, turned-outcome}
 
 -- 9 has place 0
 room-place : (b : Bool) (ws vs : List ℕ) → placeIn (cond b (converted ws vs) (refused 9 0)) ≤ 16384

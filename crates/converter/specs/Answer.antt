@@ -1,7 +1,7 @@
 -- Document 01's numbers for each answer of `convert`. "Every refusal has zero counts"; "An acceptance has number 0, place 0". Assumes nothing.
 use Prim.Native.Nat.{ℕ}
 use Rattle.rows.specs.Refusals as checks
-use Rattle.converter.specs.Refused as turns
+use Rattle.refusals.specs.Refused as turns
 use Rattle.converter.specs.declared.answer.Converted.{Converted}
 use Rattle.converter.specs.declared.answer.Converted.the-variants.{Unsound, TurnedAway, NoRoom, Done}
 

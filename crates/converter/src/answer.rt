@@ -1,5 +1,5 @@
 // What `convert` answers, and document 01's numbers of each answer.
-use crate::Refused;
+use refusals::Refused;
 use rows::Checked;
 ghost use mathlib.Core.Path.{_≡_};
 ghost use Rattle.converter.specs.Answer.{numberOf, placeOf, rowsOf, bindingsOf};

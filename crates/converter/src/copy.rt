@@ -9,7 +9,7 @@ ghost use Rattle.rows.specs.Words.{rowsIn};
 ghost use Rattle.rows.specs.Forest.{table};
 ghost use Rattle.output.specs.Output.{Done, Copied};
 ghost use Rattle.bindings.specs.Store.{Store, binds};
-ghost use Rattle.converter.specs.Given.{GivenRows};
+ghost use Rattle.refusals.specs.Given.{GivenRows};
 
 // "Disabled: rows copied, no bindings." The answer is the number of rows.
 pub fn copy_rows(rows: &[u8], out: &mut [u8]) -> usize

@@ -1,7 +1,7 @@
 -- `converter::convert` meets its contract. Assumes nothing.
 use mathlib.Core.Path.{sym, _∙_}
 use Rattle.acts.specs.View.{switchesOf}
-use Rattle.converter.proofs.Giving.{given}
+use Rattle.refusals.proofs.Giving.{given}
 use Rattle.converter.proofs.Answering.{sound-zero, passes, unsound, turned}
 use Rattle.converter.proofs.Owning.{promised}
 use borrow.Author.Needs.{needs}

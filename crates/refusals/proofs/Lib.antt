@@ -1,0 +1,4 @@
+pub mod Stands
+pub mod Values
+pub mod Giving
+pub mod Turning

@@ -1,0 +1,4 @@
+pub mod Given
+pub mod Standing
+pub mod Hits
+pub mod Refused
