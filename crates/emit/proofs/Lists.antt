@@ -33,7 +33,7 @@ use Rattle.plan.specs.Frames.{FramesBelow}
 use Rattle.plan.proofs.Leaving.{rows-size}
 use Rattle.emit.specs.declared.Walk.{Walk}
 use Rattle.emit.specs.declared.Plan.{Plan}
-use Rattle.emit.specs.Plans.{listOf, listed, inside, topped, built, dressed, Planned}
+use Rattle.emit.specs.Plans.{listOf, listed, inside, dressed, Planned, frameIn}
 
 join-assoc : (f g h : Rows) → join (join f g) h ≡ join f (join g h)
 unfolding join
@@ -97,13 +97,13 @@ module _ (rows names text M : List ℕ) (v : Walk) (good : Nested (words rows) (
     S = passOf b sc (q .slot) (kindAt ws i) (number N bs 1 r 0) (firstSuper (children ws i)) (superCall (children ws i)) (A .op)
 
     abbrev S' : Pass
-    S' = passOf b sc (q .slot) (kindAt ws i) (number N bs 1 (p .frame) 0) (firstSuper (children ws i)) (superCall (children ws i)) (opOf (p .act .op))
+    S' = passOf b sc (q .slot) (kindAt ws i) (number N bs 1 (frameIn p) 0) (firstSuper (children ws i)) (superCall (children ws i)) (opOf (p .op))
 
     low : i < rowsIn rows
     low = let h = R .within in omega arith
 
-    frame-is : p .frame ≡ r
-    frame-is = P .frame ∙ ap (λ (s : Spot). s .ctx .thisAt) (P .does .later)
+    frame-is : frameIn p ≡ r
+    frame-is = ap (λ (s : Spot). s .ctx .thisAt) (P .does .later)
 
     same-pass : S' ≡ S
     same-pass = rw (frame-is, P .does .becomes) refl
@@ -119,20 +119,23 @@ module _ (rows names text M : List ℕ) (v : Walk) (good : Nested (words rows) (
         ∙ ap (λ (m : ℕ). join (rowS q b (kindAt ws i) r (S .met) (S .first) (A .op) (emitS N w bs (S .bind) (S .scan) (into w q (A .one)) (into w q (A .more)) (i + 1) (children ws i))) (emitS N w bs b (S .next) q' q' m (rowsAt ws (endAt ws i) e)))
         (rows-size ws (rowsIn rows) good (i + 1) (endAt ws i) (inner ws (rowsIn rows) good i low))
 
-    inside-is : inside rows names text M v p ≡ emitS N w bs (S .bind) (S .scan) (into w q (A .one)) (into w q (A .more)) (i + 1) (children ws i)
-    inside-is = rw (P .says .bind, P .says .scan, same-pass, P .does .first, P .does .later, P .row, P .end) refl
+    inside-is : inside rows names text M v (p .inner) ≡ emitS N w bs (S .bind) (S .scan) (into w q (A .one)) (into w q (A .more)) (i + 1) (children ws i)
+    inside-is = rw (P .says .bind, P .says .scan, same-pass, P .does .first, P .does .later, P .from, P .end) refl
 
-    dressed-is : dressed rows names text M v p ≡ rowS q b (kindAt ws i) r (S .met) (S .first) (A .op) (inside rows names text M v p)
-    dressed-is =
+    dressed-from : (f : Rows) → rowS (spotOf (p .spot)) (p .bind) (p .words .kind) (frameIn p) (p .met) (p .first) (opOf (p .op)) f ≡ rowS q b (kindAt ws i) r (S .met) (S .first) (A .op) f
+    dressed-from f =
         rw (P .bind, P .kind, frame-is, P .says .met, P .says .first, same-pass, P .does .becomes)
-        (ap (λ (s : Spot). rowS s b (kindAt ws i) r (S .met) (S .first) (A .op) (inside rows names text M v p)) (P .spot))
+        (ap (λ (s : Spot). rowS s b (kindAt ws i) r (S .met) (S .first) (A .op) f) (P .spot))
 
-    pub plan-step : listed rows names text M v b sc q q' i e ≡ join (dressed rows names text M v p) (listed rows names text M v b (p .pass .next) q' q' (p .end) e)
+    dressed-is : dressed rows names text M v p ≡ rowS q b (kindAt ws i) r (S .met) (S .first) (A .op) (inside rows names text M v (p .inner))
+    dressed-is = dressed-from (inside rows names text M v (p .inner))
+
+    pub plan-step : listed rows names text M v b sc q q' i e ≡ join (dressed rows names text M v p) (listed rows names text M v b (p .next) q' q' (p .inner .end) e)
     plan-step =
         stepped
         ∙ ap (λ (t : Rows). join t (emitS N w bs b (S .next) q' q' (endAt ws i) (rowsAt ws (endAt ws i) e))) (sym (dressed-is ∙ ap (rowS q b (kindAt ws i) r (S .met) (S .first) (A .op)) inside-is))
         ∙ ap (λ (m : ℕ). join (dressed rows names text M v p) (emitS N w bs b m q' q' (endAt ws i) (rowsAt ws (endAt ws i) e))) (sym (P .says .next ∙ ap (λ (s : Pass). s .next) same-pass))
-        ∙ ap (λ (m : ℕ). join (dressed rows names text M v p) (emitS N w bs b (p .pass .next) q' q' m (rowsAt ws m e))) (sym (P .end))
+        ∙ ap (λ (m : ℕ). join (dressed rows names text M v p) (emitS N w bs b (p .next) q' q' m (rowsAt ws m e))) (sym (P .end))
 
 -- the walk of a list: what is left gives what there was to do
 pub record Turning (rows names text M : List ℕ) (v : Walk) (b sc₀ : ℕ) (q₀ more : Spot) (from e : ℕ) (out₀ : List ℕ) (at i : ℕ) (q : Spot) (sc : ℕ) (out : List ℕ) (next : ℕ) : Type 0 where
@@ -150,21 +153,21 @@ module _ {rows names text M : List ℕ} {v : Walk} {b sc₀ : ℕ} {q₀ more : 
     below : i < rowsIn rows
     below = let h = T .range .within in omega arith
 
-    ahead : i < p .end
+    ahead : i < p .inner .end
     ahead = subst (λ (x : ℕ). i < x) (sym (P .end)) (good .ahead i below)
 
-    up : p .end ≤ e
+    up : p .inner .end ≤ e
     up = subst (λ (x : ℕ). x ≤ e) (sym (P .end)) (T .range .closed i (omega arith) lt)
 
     -- what the walker of the row needs
     pub row-room : at + size all < 2 ^ 32 → next + size (dressed rows names text M v p) < 2 ^ 32
-    row-room h = omega (arith, room-left (dressed rows names text M v p) (listed rows names text M v b (p .pass .next) more more (p .end) e) (T .left) (plan-step rows names text M v good b sc q more i e (T .range) lt p P) h)
+    row-room h = omega (arith, room-left (dressed rows names text M v p) (listed rows names text M v b (p .next) more more (p .inner .end) e) (T .left) (plan-step rows names text M v good b sc q more i e (T .range) lt p P) h)
 
-    pub row-fewer : (k t : ℕ) → k < 8 → 8 * (e - from) ≡ t → 8 * (p .end - (p .row + 1)) + k < t
-    row-fewer k t h m = let a = ahead in let u = up in let s = T .start in let r = P .row in omega arith
+    pub row-fewer : (k t : ℕ) → k < 8 → 8 * (e - from) ≡ t → 8 * (p .inner .end - p .inner .from) + k < t
+    row-fewer k t h m = let a = ahead in let u = up in let s = T .start in let r = P .from in omega arith
 
     pub turn-on : FramesBelow (v .cap) (more .ctx) → {out′ : List ℕ} {r : ℕ} → Done out next (dressed rows names text M v p) r out′
-        → Turning rows names text M v b sc₀ q₀ more from e out₀ at (p .end) more (p .pass .next) out′ r
+        → Turning rows names text M v b sc₀ q₀ more from e out₀ at (p .inner .end) more (p .next) out′ r
     turn-on m {out′} {r} d = record {
       left = turn (T .left) (plan-step rows names text M v good b sc q more i e (T .range) lt p P) d;
       range = subst (λ (x : ℕ). Range (words rows) (rowsIn rows) x e) (sym (P .end)) (later (words rows) (rowsIn rows) good i e (T .range) lt);
@@ -172,7 +175,7 @@ module _ {rows names text M : List ℕ} {v : Walk} {b sc₀ : ℕ} {q₀ more : 
       low = m;
     }
 
-    pub turn-less : e - p .end < e - i
+    pub turn-less : e - p .inner .end < e - i
     turn-less = let a = ahead in let u = up in omega arith
 
   pub turned : e ≤ i → Done out₀ at (listed rows names text M v b sc₀ q₀ more from e) next out

@@ -34,9 +34,9 @@ use Rattle.plan.specs.Frames.{FramesBelow, ActLow, Small}
 use Rattle.plan.proofs.Frames.{row-act-low}
 use Rattle.emit.specs.declared.Walk.{Walk}
 use Rattle.emit.specs.declared.Plan.{Plan}
-use Rattle.emit.specs.Walkers.{isStatement, isFunction, isRow}
-use Rattle.emit.specs.Plans.{listOf, Holds, Formed, RowPre, Planned}
-use Rattle.emit.proofs.Formed.{statement-op, met-op, rowless-open, statement-met, statement-open, met-open, other-first, dressed-first, function-open}
+use Rattle.emit.specs.Walkers.{isStatement, isRow}
+use Rattle.emit.specs.Plans.{listOf, Holds, Formed, RowPre, Planned, actIn, frameIn}
+use Rattle.emit.proofs.Formed.{statement-op, met-op, rowless-open, statement-met, statement-open, met-open, other-first, dressed-first}
 
 module _ (rows names text M : List ℕ) (v : Walk) (b sc : ℕ) (q : Spot) (i : ℕ) (p : Plan) where
   abbrev ws : List ℕ
@@ -55,11 +55,11 @@ module _ (rows names text M : List ℕ) (v : Walk) (b sc : ℕ) (q : Spot) (i : 
     slot-is : p .spot .slot ≡ q .slot
     slot-is = ap (λ (s : Spot). s .slot) (P .spot)
 
-    met-is : p .pass .met ≡ metOf (own (q .slot) sc) (kindAt ws i) (firstSuper (children ws i))
+    met-is : p .met ≡ metOf (own (q .slot) sc) (kindAt ws i) (firstSuper (children ws i))
     unfolding passOf
     met-is = P .says .met
 
-    first-is : p .pass .first ≡ directOf (own (q .slot) sc) (kindAt ws i) (superCall (children ws i))
+    first-is : p .first ≡ directOf (own (q .slot) sc) (kindAt ws i) (superCall (children ws i))
     unfolding passOf
     first-is = P .says .first
 
@@ -90,7 +90,6 @@ module _ (rows names text M : List ℕ) (v : Walk) (b sc : ℕ) (q : Spot) (i : 
             P .does .becomes ∙ met-op N w late (q .ctx) (q .slot) i (attrAt ws i) (nameAt ws i) (children ws i) (kindAt ws i) (own (q .slot) sc) (firstSuper (children ws i)) m ∙ words-are,
             closes-is ∙ met-open (kindAt ws i) (q .slot) (own (q .slot) sc) (firstSuper (children ws i)) m,
           );
-      closing = λ h. closes-is ∙ function-open (kindAt ws i) (q .slot) (sym (ap isFunction (P .kind)) ∙ h);
       rowless = λ h. closes-is ∙ rowless-open N w late (q .ctx) (q .slot) i (attrAt ws i) (nameAt ws i) (children ws i) (kindAt ws i) (sym (ap isRow (P .does .becomes)) ∙ h);
     }
 
@@ -100,22 +99,21 @@ module _ (rows names text M : List ℕ) (v : Walk) (b sc : ℕ) (q : Spot) (i : 
 
     -- what the walkers of the row need
     pub row-pre : At rows (rowsIn rows) i → GivenNames names text → Holds M v (rowsIn rows) → FramesBelow (v .cap) (q .ctx) → b ≤ 16384
-        → Small ws i → number N (listOf M v) 1 (p .frame) 0 ≤ 16384 → RowPre rows names text M v p
+        → Small ws i → number N (listOf M v) 1 (frameIn p) 0 ≤ 16384 → RowPre rows names text M v p
     unfolding passOf
     row-pre g names-given holds low bound small few =
-        let L : ActLow (v .cap) (p .act) = row-act-low N w q ws i (v .cap) (let r = g .row in let h = holds .rows-low in omega arith) low small (p .act) (P .does) in
+        let L : ActLow (v .cap) (actIn p) = row-act-low N w q ws i (v .cap) (let r = g .row in let h = holds .rows-low in omega arith) low small (actIn p) (P .does) in
         record {
           inner = record {
-            range = record { bytes = g .bytes; few = g .few; nested = g .nested; range = subst (λ (x : ℕ). Range ws (rowsIn rows) (x + 1) (p .end)) (sym (P .row)) (subst (Range ws (rowsIn rows) (i + 1)) (sym (P .end)) (inner ws (rowsIn rows) (g .nested) i (g .row))) };
+            range = record { bytes = g .bytes; few = g .few; nested = g .nested; range = subst (λ (x : ℕ). Range ws (rowsIn rows) x (p .inner .end)) (sym (P .from)) (subst (Range ws (rowsIn rows) (i + 1)) (sym (P .end)) (inner ws (rowsIn rows) (g .nested) i (g .row))) };
             named = names-given;
             holds = holds;
-            bound = subst (λ (x : ℕ). x ≤ 16384) (sym (P .says .bind)) (cond-low (anew (q .slot) (kindAt ws i) (number N (listOf M v) 1 (p .frame) 0)) _ b 16384 few bound);
+            bound = subst (λ (x : ℕ). x ≤ 16384) (sym (P .says .bind)) (cond-low (anew (q .slot) (kindAt ws i) (number N (listOf M v) 1 (frameIn p) 0)) _ b 16384 few bound);
             first = L .one;
             later = L .more;
           };
           here = subst (λ (s : Spot). FramesBelow (v .cap) (s .ctx)) (sym (P .spot)) low;
           bound = subst (λ (x : ℕ). x ≤ 16384) (sym (P .bind)) bound;
-          framed = subst (λ (x : ℕ). x < v .cap) (sym (P .frame)) (L .more .this);
           low = L .op;
           fit = (subst (λ (x : ℕ). x < 4294967296) (sym (P .kind)) (small .kind), (subst (λ (x : ℕ). x < 4294967296) (sym (P .attr)) (small .attr), subst (λ (x : ℕ). x < 4294967296) (sym (P .name)) (small .name)));
           formed = formed;
@@ -124,7 +122,16 @@ module _ (rows names text M : List ℕ) (v : Walk) (b sc : ℕ) (q : Spot) (i : 
 -- the plan, by the values that the code has
 module _ (rows names text M : List ℕ) (v : Walk) (b sc : ℕ) (q : Place) (i k a n e m : ℕ) (sup called : Bool) (A : Acted) (s : Passed) where
   abbrev it : Plan
-  it = record { row = i; end = e; spot = q; bind = b; words = record { kind = k; attr = a; name = n }; act = A; frame = A .more .context .«this_at»; pass = s }
+  it = record {
+    inner = record { from = i + 1; end = e; bind = s .bind; state = s .scan; one = A .one; more = A .more };
+    spot = q;
+    bind = b;
+    words = record { kind = k; attr = a; name = n };
+    op = A .op;
+    met = s .met;
+    first = s .first;
+    next = s .next;
+  }
 
   pub plan-is : At rows (rowsIn rows) i → GivenNames names text → Holds M v (rowsIn rows) → FramesBelow (v .cap) (contextOf (q .context)) → b ≤ 16384
       → k ≡ kindAt (words rows) i → a ≡ attrAt (words rows) i → n ≡ nameAt (words rows) i → e ≡ endAt (words rows) i
@@ -135,7 +142,7 @@ module _ (rows names text M : List ℕ) (v : Walk) (b sc : ℕ) (q : Place) (i k
   plan-is g names-given holds low bound hk ha hn he D small fr hm hs hc S =
       let number-is : m ≡ number (namesOf names text) (listOf M v) 1 (A .more .context .«this_at») 0 = hm ∙ this-number (namesOf names text) M (v .cap) (v .count) (holds .store) (A .more .context .«this_at») fr in
       let P : Planned (namesOf names text) M (words rows) v b sc (spotOf q) i it = record {
-        row = refl;
+        from = refl;
         end = he;
         spot = refl;
         bind = refl;
@@ -143,7 +150,6 @@ module _ (rows names text M : List ℕ) (v : Walk) (b sc : ℕ) (q : Place) (i k
         attr = ha;
         name = hn;
         does = D;
-        frame = refl;
         says = subst (λ (x : ℕ). Says s (passOf b sc (q .slot) (kindAt (words rows) i) x (firstSuper (children (words rows) i)) (superCall (children (words rows) i)) (opOf (A .op)))) number-is
             (subst (λ (x : ℕ). Says s (passOf b sc (q .slot) x m (firstSuper (children (words rows) i)) (superCall (children (words rows) i)) (opOf (A .op)))) hk
             (subst (λ (y : Bool). Says s (passOf b sc (q .slot) k m y (superCall (children (words rows) i)) (opOf (A .op)))) hs

@@ -31,11 +31,13 @@ use Rattle.output.specs.Output.{Done}
 use Rattle.output.proofs.Writing.{size-one, size-leaf, size-join}
 use Rattle.output.proofs.Shapes.{size-assignment}
 use Rattle.emit.specs.declared.Walk.{Walk}
+use Rattle.emit.specs.declared.Siblings.{Siblings}
 use Rattle.emit.specs.declared.Plan.{Plan}
 use Rattle.emit.specs.Walkers.{isStatement, isFunction, isRow}
 use Rattle.emit.specs.Idents.{thisRow}
 use Rattle.emit.specs.Top.{topRows}
 use Rattle.emit.specs.Plans.{listOf, inside, topped, built, dressed, Formed}
+use Rattle.emit.proofs.Formed.{function-open}
 
 pub join-none : (f : Rows) → join f none ≡ f
 unfolding join
@@ -71,33 +73,47 @@ nothing-first : (t : Rows) → join none t ≡ t
 unfolding join
 nothing-first t = refl
 
-module _ (rows names text M : List ℕ) (v : Walk) (p : Plan) where
+-- what stands inside of a row of kind k in that slot
+module _ (rows names text M : List ℕ) (v : Walk) (sl k : ℕ) (n : Siblings) where
   abbrev N : Names
   N = namesOf names text
 
-  abbrev I : Rows
-  I = inside rows names text M v p
-
-  abbrev T : Rows
-  T = topped rows names text M v p
+  abbrev inn : Rows
+  inn = inside rows names text M v n
 
   -- a row that closes no frame
-  open-topped : closes (p .spot .slot) (p .words .kind) ≡ false → T ≡ I
+  open-topped : closes sl k ≡ false → topped rows names text M v sl k n ≡ inn
   unfolding topS
   open-topped h = rw h refl
 
-  -- the Var goes first
-  pub top-join : Store M (v .cap) (v .count) → p .frame < v .cap → T ≡ join (topRows M v (p .spot .slot) (p .words .kind) (p .frame)) I
-  unfolding topS
-  top-join S h = go (closes (p .spot .slot) (p .words .kind))
-    where
-      go : (y : Bool) → cond y (varFirst (declared N (listOf M v) (p .frame) (eqb (p .words .kind) Program) (eqb (p .spot .slot) lateBody)) I) I
-          ≡ join (cond y (varFirst (frameDecls M (v .cap) (v .count) (p .frame) (eqb (p .words .kind) Program) (eqb (p .spot .slot) lateBody)) none) none) I
-      go true = ap (λ (d : Rows). varFirst d I) (frame-decls N M (v .cap) (v .count) (p .frame) (eqb (p .words .kind) Program) (eqb (p .spot .slot) lateBody) S h) ∙ first-join _ I
-      go false = sym (nothing-first I)
+  pub kept-inside : isFunction k ≡ false → topped rows names text M v sl k n ≡ inn
+  kept-inside h = open-topped (function-open k sl h)
 
-  pub top-size : Store M (v .cap) (v .count) → p .frame < v .cap → size T ≡ size (topRows M v (p .spot .slot) (p .words .kind) (p .frame)) + size I
-  top-size S h = ap size (top-join S h) ∙ size-join _ I
+  -- the Var goes first
+  pub top-join : Store M (v .cap) (v .count) → n .more .context .«this_at» < v .cap → topped rows names text M v sl k n ≡ join (topRows M v sl k (n .more .context .«this_at»)) inn
+  unfolding topS
+  top-join S h = go (closes sl k)
+    where
+      go : (y : Bool) → cond y (varFirst (declared N (listOf M v) (n .more .context .«this_at») (eqb k Program) (eqb sl lateBody)) inn) inn
+          ≡ join (cond y (varFirst (frameDecls M (v .cap) (v .count) (n .more .context .«this_at») (eqb k Program) (eqb sl lateBody)) none) none) inn
+      go true = ap (λ (d : Rows). varFirst d inn) (frame-decls N M (v .cap) (v .count) (n .more .context .«this_at») (eqb k Program) (eqb sl lateBody) S h) ∙ first-join _ inn
+      go false = sym (nothing-first inn)
+
+  pub top-size : Store M (v .cap) (v .count) → n .more .context .«this_at» < v .cap → size (topped rows names text M v sl k n) ≡ size (topRows M v sl k (n .more .context .«this_at»)) + size inn
+  top-size S h = ap size (top-join S h) ∙ size-join _ inn
+
+module _ (rows names text M : List ℕ) (v : Walk) (p : Plan) where
+  abbrev NN : Names
+  NN = namesOf names text
+
+  abbrev I : Rows
+  I = inside rows names text M v (p .inner)
+
+  abbrev T : Rows
+  T = topped rows names text M v (p .spot .slot) (p .words .kind) (p .inner)
+
+  closed-not : closes (p .spot .slot) (p .words .kind) ≡ false → T ≡ I
+  closed-not h = open-topped rows names text M v (p .spot .slot) (p .words .kind) (p .inner) h
 
   module _ (F : Formed p) where
     abbrev row-of : Rows → Rows → Rows
@@ -105,99 +121,96 @@ module _ (rows names text M : List ℕ) (v : Walk) (p : Plan) where
 
     -- a statement
     pub statement-rows : isStatement (p .words .kind) ≡ true → eqb (p .spot .slot) wrapped ≡ false
-        → dressed rows names text M v p ≡ row-of I (cond (p .pass .first) (node ExprStmt 0 0 (assignment (p .bind)) none) none)
+        → dressed rows names text M v p ≡ row-of I (cond (p .first) (node ExprStmt 0 0 (assignment (p .bind)) none) none)
     unfolding dress buildS build
     statement-rows h w =
         let f = F .statement h in
-        rw (w, f .1 .0, f .0) (ap (λ (t : Rows). row-of t (cond (p .pass .first) (node ExprStmt 0 0 (assignment (p .bind)) none) none)) (open-topped (f .1 .1)))
+        rw (w, f .1 .0, f .0) (ap (λ (t : Rows). row-of t (cond (p .first) (node ExprStmt 0 0 (assignment (p .bind)) none) none)) (closed-not (f .1 .1)))
 
     -- a called Super
-    pub sequence-rows : p .pass .met ≡ true → p .pass .first ≡ false → built rows names text M v p none ≡ node Sequence 0 0 (row-of I (assignment (p .bind))) none
+    pub sequence-rows : p .met ≡ true → p .first ≡ false → built rows names text M v p none ≡ node Sequence 0 0 (row-of I (assignment (p .bind))) none
     unfolding buildS build
     sequence-rows h g =
         let f = F .met h in
-        rw (h, f .0) (ap (λ (t : Rows). node Sequence 0 0 (row-of t (assignment (p .bind))) none) (open-topped (f .1)))
+        rw (h, f .0) (ap (λ (t : Rows). node Sequence 0 0 (row-of t (assignment (p .bind))) none) (closed-not (f .1)))
 
-    pub kept-inside : isFunction (p .words .kind) ≡ false → T ≡ I
-    kept-inside h = open-topped (F .closing h)
-
-    module _ (m : p .pass .met ≡ false) (g : p .pass .first ≡ false) where
-      pub row-rows : (k a n : ℕ) → opOf (p .act .op) ≡ row k a n → built rows names text M v p none ≡ node k a n T none
+    module _ (m : p .met ≡ false) (g : p .first ≡ false) where
+      pub row-rows : (k a n : ℕ) → opOf (p .op) ≡ row k a n → built rows names text M v p none ≡ node k a n T none
       unfolding buildS build
       row-rows k a n h = rw (m, g, h) refl
 
-      rowless-topped : (x : Op) → opOf (p .act .op) ≡ x → isRow x ≡ false → T ≡ I
-      rowless-topped x h e = open-topped (F .rowless (ap isRow h ∙ e))
+      rowless-topped : (x : Op) → opOf (p .op) ≡ x → isRow x ≡ false → T ≡ I
+      rowless-topped x h e = closed-not (F .rowless (ap isRow h ∙ e))
 
-      pub drop-rows : opOf (p .act .op) ≡ drop → built rows names text M v p none ≡ I
+      pub drop-rows : opOf (p .op) ≡ drop → built rows names text M v p none ≡ I
       unfolding buildS build isRow
       drop-rows h = rw (m, g, h) (join-none T ∙ rowless-topped drop h refl)
 
-      pub name-rows : (u f : ℕ) → opOf (p .act .op) ≡ name u f → built rows names text M v p none ≡ node Ident 1 (number N (listOf M v) u f 0) none none
+      pub name-rows : (u f : ℕ) → opOf (p .op) ≡ name u f → built rows names text M v p none ≡ node Ident 1 (number NN (listOf M v) u f 0) none none
       unfolding buildS build
       name-rows u f h = rw (m, g, h) refl
 
-      pub call-rows : (u f x : ℕ) → opOf (p .act .op) ≡ call u f x false → built rows names text M v p none ≡ node Call 0 0 (node Ident 1 (number N (listOf M v) u f x) none I) none
+      pub call-rows : (u f x : ℕ) → opOf (p .op) ≡ call u f x false → built rows names text M v p none ≡ node Call 0 0 (node Ident 1 (number NN (listOf M v) u f x) none I) none
       unfolding buildS build isRow
-      call-rows u f x h = rw (m, g, h) (ap (λ (t : Rows). node Call 0 0 (node Ident 1 (number N (listOf M v) u f x) none t) none) (rowless-topped (call u f x false) h refl))
+      call-rows u f x h = rw (m, g, h) (ap (λ (t : Rows). node Call 0 0 (node Ident 1 (number NN (listOf M v) u f x) none t) none) (rowless-topped (call u f x false) h refl))
 
       -- a captured `this` or `arguments`
-      pub captured-rows : (u f : ℕ) → opOf (p .act .op) ≡ name u f → Store M (v .cap) (v .count) → 0 < u → u ≤ 2 → f < v .cap
+      pub captured-rows : (u f : ℕ) → opOf (p .op) ≡ name u f → Store M (v .cap) (v .count) → 0 < u → u ≤ 2 → f < v .cap
           → built rows names text M v p none ≡ node Ident 1 (getD M (captureTable (v .cap) u f) 0) none none
       captured-rows u f h S some few low =
           name-rows u f h
-          ∙ ap (λ (b : ℕ). node Ident 1 b none none) (number-capture N u f few (listOf M v) (S .bare) ∙ sym (table-is M (v .cap) (v .count) u f S low (one-or-two u some few)))
+          ∙ ap (λ (b : ℕ). node Ident 1 b none none) (number-capture NN u f few (listOf M v) (S .bare) ∙ sym (table-is M (v .cap) (v .count) u f S low (one-or-two u some few)))
 
       -- `get().call(this, ..)`
-      pub called-rows : (u f x : ℕ) → opOf (p .act .op) ≡ call u f x true → Store M (v .cap) (v .count) → p .spot .context .«this_at» < v .cap
-          → built rows names text M v p none ≡ node Member 1 0 (node Call 0 0 (node Ident 1 (number N (listOf M v) u f x) none I) none) (thisRow M (v .cap) (p .spot .context .«takes_this») (p .spot .context .«this_at»))
+      pub called-rows : (u f x : ℕ) → opOf (p .op) ≡ call u f x true → Store M (v .cap) (v .count) → p .spot .context .«this_at» < v .cap
+          → built rows names text M v p none ≡ node Member 1 0 (node Call 0 0 (node Ident 1 (number NN (listOf M v) u f x) none I) none) (thisRow M (v .cap) (p .spot .context .«takes_this») (p .spot .context .«this_at»))
       unfolding buildS build isRow thisRow
       called-rows u f x h S low =
           rw (m, g, h)
-          (ap (λ (t : Rows). node Member 1 0 (node Call 0 0 (node Ident 1 (number N (listOf M v) u f x) none t) none) (cond (p .spot .context .«takes_this») (node Ident 1 (number N (listOf M v) 1 (p .spot .context .«this_at») 0) none none) (node This 0 0 none none))) (rowless-topped (call u f x true) h refl)
-          ∙ ap (λ (b : ℕ). node Member 1 0 (node Call 0 0 (node Ident 1 (number N (listOf M v) u f x) none I) none) (cond (p .spot .context .«takes_this») (node Ident 1 b none none) (node This 0 0 none none))) (sym (this-number N M (v .cap) (v .count) S (p .spot .context .«this_at») low)))
+          (ap (λ (t : Rows). node Member 1 0 (node Call 0 0 (node Ident 1 (number NN (listOf M v) u f x) none t) none) (cond (p .spot .context .«takes_this») (node Ident 1 (number NN (listOf M v) 1 (p .spot .context .«this_at») 0) none none) (node This 0 0 none none))) (rowless-topped (call u f x true) h refl)
+          ∙ ap (λ (b : ℕ). node Member 1 0 (node Call 0 0 (node Ident 1 (number NN (listOf M v) u f x) none I) none) (cond (p .spot .context .«takes_this») (node Ident 1 b none none) (node This 0 0 none none))) (sym (this-number NN M (v .cap) (v .count) S (p .spot .context .«this_at») low)))
 
-      pub row-size : (k a n : ℕ) → opOf (p .act .op) ≡ row k a n → size (built rows names text M v p none) ≡ 1 + size T
+      pub row-size : (k a n : ℕ) → opOf (p .op) ≡ row k a n → size (built rows names text M v p none) ≡ 1 + size T
       row-size k a n h = ap size (row-rows k a n h) ∙ size-one k a n T
 
-      pub drop-size : opOf (p .act .op) ≡ drop → size (built rows names text M v p none) ≡ size I
+      pub drop-size : opOf (p .op) ≡ drop → size (built rows names text M v p none) ≡ size I
       drop-size h = ap size (drop-rows h)
 
-      pub name-size : (u f : ℕ) → opOf (p .act .op) ≡ name u f → size (built rows names text M v p none) ≡ 1
+      pub name-size : (u f : ℕ) → opOf (p .op) ≡ name u f → size (built rows names text M v p none) ≡ 1
       unfolding size
       name-size u f h = ap size (name-rows u f h)
 
-      pub call-size : (u f x : ℕ) → opOf (p .act .op) ≡ call u f x false → size (built rows names text M v p none) ≡ 2 + size I
+      pub call-size : (u f x : ℕ) → opOf (p .op) ≡ call u f x false → size (built rows names text M v p none) ≡ 2 + size I
       unfolding size
       call-size u f x h = let z = ap size (call-rows u f x h) in omega arith
 
-      pub called-size : (u f x : ℕ) → opOf (p .act .op) ≡ call u f x true → Store M (v .cap) (v .count) → p .spot .context .«this_at» < v .cap → size (built rows names text M v p none) ≡ 4 + size I
+      pub called-size : (u f x : ℕ) → opOf (p .op) ≡ call u f x true → Store M (v .cap) (v .count) → p .spot .context .«this_at» < v .cap → size (built rows names text M v p none) ≡ 4 + size I
       unfolding size
       called-size u f x h S low =
           let z = ap size (called-rows u f x h S low) in
           omega (arith, this-size M (v .cap) (p .spot .context .«takes_this») (p .spot .context .«this_at»))
 
-    pub sequence-size : p .pass .met ≡ true → p .pass .first ≡ false → size (built rows names text M v p none) ≡ 6 + size I
+    pub sequence-size : p .met ≡ true → p .first ≡ false → size (built rows names text M v p none) ≡ 6 + size I
     unfolding size
     sequence-size h g = let z = ap size (sequence-rows h g) in omega (arith, size-assignment (p .bind))
 
     module _ (h : isStatement (p .words .kind) ≡ true) (w : eqb (p .spot .slot) wrapped ≡ false) where
-      pub statement-plain : p .pass .first ≡ false → dressed rows names text M v p ≡ row-of I none
+      pub statement-plain : p .first ≡ false → dressed rows names text M v p ≡ row-of I none
       statement-plain g = statement-rows h w ∙ ap (λ (y : Bool). row-of I (cond y (node ExprStmt 0 0 (assignment (p .bind)) none) none)) g
 
-      pub statement-assigned : p .pass .first ≡ true → dressed rows names text M v p ≡ row-of I (node ExprStmt 0 0 (assignment (p .bind)) none)
+      pub statement-assigned : p .first ≡ true → dressed rows names text M v p ≡ row-of I (node ExprStmt 0 0 (assignment (p .bind)) none)
       statement-assigned g = statement-rows h w ∙ ap (λ (y : Bool). row-of I (cond y (node ExprStmt 0 0 (assignment (p .bind)) none) none)) g
 
       pub statement-least : 1 + size I ≤ size (dressed rows names text M v p)
       unfolding size
       statement-least = let z = ap size (statement-rows h w) in omega arith
 
-      pub assigned-size : p .pass .first ≡ true → size (dressed rows names text M v p) ≡ 6 + size I
+      pub assigned-size : p .first ≡ true → size (dressed rows names text M v p) ≡ 6 + size I
       unfolding size
       assigned-size g = let z = ap size (statement-assigned g) in omega (arith, size-assignment (p .bind))
 
     -- which walker a row of a list goes to
-    pub expression-first : (r : Bool) → r ≡ isStatement (p .words .kind) → (r && not (eqb (p .spot .slot) wrapped)) ≡ false → p .pass .first ≡ false
+    pub expression-first : (r : Bool) → r ≡ isStatement (p .words .kind) → (r && not (eqb (p .spot .slot) wrapped)) ≡ false → p .first ≡ false
     expression-first true e h = F .dressing (unnot (eqb (p .spot .slot) wrapped) h)
     expression-first false e h = F .other (sym e)
 

@@ -21,13 +21,16 @@ use Rattle.steps.specs.Fused.{passOf, topS, buildS, emitS}
 use Rattle.bindings.specs.Store.{Store, binds}
 use Rattle.passes.specs.View.{opOf, Says}
 use Rattle.below.specs.Below.{children}
+use Rattle.passes.specs.declared.Pass.{Pass}
+use Rattle.acts.specs.declared.act.Act.{Act}
 use Rattle.acts.specs.View.{switchesOf, contextOf}
 use Rattle.acts.specs.Deciding.{spotOf, Does}
 use Rattle.plan.specs.Ranged.{Ranged}
 use Rattle.plan.specs.Frames.{FramesBelow, OpLow}
 use Rattle.emit.specs.declared.Walk.{Walk}
+use Rattle.emit.specs.declared.Siblings.{Siblings}
 use Rattle.emit.specs.declared.Plan.{Plan}
-use Rattle.emit.specs.Walkers.{isStatement, isFunction, isRow}
+use Rattle.emit.specs.Walkers.{isStatement, isRow}
 
 -- the bindings of the array
 abbrev pub listOf : List ℕ → Walk → List Binding
@@ -43,16 +46,16 @@ module _ (rows names text M : List ℕ) (v : Walk) where
   emitted = emitS (namesOf names text) (switchesOf (v .switches)) (listOf M v) 0 copy (spot start free) (spot start free) 0 (table rows)
 
   -- what a row's children become
-  abbrev pub inside : Plan → Rows
-  inside p = listed (p .pass .bind) (p .pass .scan) (spotOf (p .act .one)) (spotOf (p .act .more)) (p .row + 1) (p .end)
+  abbrev pub inside : Siblings → Rows
+  inside n = listed (n .bind) (n .state) (spotOf (n .one)) (spotOf (n .more)) (n .from) (n .end)
 
-  -- .. with the Var that goes first where a frame closes
-  abbrev pub topped : Plan → Rows
-  topped p = topS (namesOf names text) (listOf M v) (p .spot .slot) (p .words .kind) (p .frame) (inside p)
+  -- .. with the Var that goes first where a row of kind k in that slot closes a frame
+  abbrev pub topped : (sl k : ℕ) → Siblings → Rows
+  topped sl k n = topS (namesOf names text) (listOf M v) sl k (n .more .context .«this_at») (inside n)
 
   -- what the row becomes, before the rows s
   abbrev pub built : Plan → Rows → Rows
-  built p = buildS (namesOf names text) (listOf M v) (contextOf (p .spot .context)) (p .bind) (p .pass .met) (p .pass .first) (opOf (p .act .op)) (topped p)
+  built p = buildS (namesOf names text) (listOf M v) (contextOf (p .spot .context)) (p .bind) (p .met) (p .first) (opOf (p .op)) (topped (p .spot .slot) (p .words .kind) (p .inner))
 
   -- and in the Body and Return of an expression body
   abbrev pub dressed : Plan → Rows
@@ -73,14 +76,17 @@ pub record ListPre (rows names text M : List ℕ) (v : Walk) (b : ℕ) (q q' : S
   pub first : FramesBelow (v .cap) (q .ctx)
   pub later : FramesBelow (v .cap) (q' .ctx)
 
+-- .. for the children of a row
+abbrev pub InnerPre : (rows names text M : List ℕ) → Walk → Siblings → Type 0
+InnerPre rows names text M v n = ListPre rows names text M v (n .bind) (spotOf (n .one)) (spotOf (n .more)) (n .from) (n .end)
+
 -- what a kind says of its plan: the cases that need not be written
 pub record Formed (p : Plan) : Type 0 where
-  pub statement : isStatement (p .words .kind) ≡ true → (opOf (p .act .op) ≡ row (p .words .kind) (p .words .attr) (p .words .name)) × ((p .pass .met ≡ false) × (closes (p .spot .slot) (p .words .kind) ≡ false))
-  pub other : isStatement (p .words .kind) ≡ false → p .pass .first ≡ false
-  pub dressing : eqb (p .spot .slot) wrapped ≡ true → p .pass .first ≡ false
-  pub met : p .pass .met ≡ true → (opOf (p .act .op) ≡ row (p .words .kind) (p .words .attr) (p .words .name)) × (closes (p .spot .slot) (p .words .kind) ≡ false)
-  pub closing : isFunction (p .words .kind) ≡ false → closes (p .spot .slot) (p .words .kind) ≡ false
-  pub rowless : isRow (opOf (p .act .op)) ≡ false → closes (p .spot .slot) (p .words .kind) ≡ false
+  pub statement : isStatement (p .words .kind) ≡ true → (opOf (p .op) ≡ row (p .words .kind) (p .words .attr) (p .words .name)) × ((p .met ≡ false) × (closes (p .spot .slot) (p .words .kind) ≡ false))
+  pub other : isStatement (p .words .kind) ≡ false → p .first ≡ false
+  pub dressing : eqb (p .spot .slot) wrapped ≡ true → p .first ≡ false
+  pub met : p .met ≡ true → (opOf (p .op) ≡ row (p .words .kind) (p .words .attr) (p .words .name)) × (closes (p .spot .slot) (p .words .kind) ≡ false)
+  pub rowless : isRow (opOf (p .op)) ≡ false → closes (p .spot .slot) (p .words .kind) ≡ false
 
 -- three words that fit 32 bits
 abbrev pub Fit : (k a n : ℕ) → Type 0
@@ -88,23 +94,32 @@ Fit k a n = (k < 4294967296) × ((a < 4294967296) × (n < 4294967296))
 
 -- what the walkers of a row need
 pub record RowPre (rows names text M : List ℕ) (v : Walk) (p : Plan) : Type 0 where
-  pub inner : ListPre rows names text M v (p .pass .bind) (spotOf (p .act .one)) (spotOf (p .act .more)) (p .row + 1) (p .end)
+  pub inner : InnerPre rows names text M v (p .inner)
   pub here : FramesBelow (v .cap) (contextOf (p .spot .context))
   pub bound : p .bind ≤ 16384
-  pub framed : p .frame < v .cap
-  pub low : OpLow (v .cap) (opOf (p .act .op))
+  pub low : OpLow (v .cap) (opOf (p .op))
   pub fit : Fit (p .words .kind) (p .words .attr) (p .words .name)
   pub formed : Formed p
 
+-- the parts of a plan that were decided: its act, and what module 7 says
+abbrev pub actIn : Plan → Act
+actIn p = record { op = p .op; one = p .inner .one; more = p .inner .more }
+
+abbrev pub passIn : Plan → Pass
+passIn p = record { met = p .met; first = p .first; scan = p .inner .state; next = p .next; bind = p .inner .bind }
+
+-- the frame inside the row
+abbrev pub frameIn : Plan → ℕ
+frameIn p = p .inner .more .context .«this_at»
+
 -- the plan p of row i, at q in state sc where binding b is assigned, is that of the steps
 pub record Planned (N : Names) (M ws : List ℕ) (v : Walk) (b sc : ℕ) (q : Spot) (i : ℕ) (p : Plan) : Type 0 where
-  pub row : p .row ≡ i
-  pub end : p .end ≡ endAt ws i
+  pub from : p .inner .from ≡ i + 1
+  pub end : p .inner .end ≡ endAt ws i
   pub spot : spotOf (p .spot) ≡ q
   pub bind : p .bind ≡ b
   pub kind : p .words .kind ≡ kindAt ws i
   pub attr : p .words .attr ≡ attrAt ws i
   pub name : p .words .name ≡ nameAt ws i
-  pub does : Does (switchesOf (v .switches)) (q .ctx) (actC N (switchesOf (v .switches)) q i (kindAt ws i) (attrAt ws i) (nameAt ws i) (children ws i)) (p .act)
-  pub frame : p .frame ≡ p .act .more .context .«this_at»
-  pub says : Says (p .pass) (passOf b sc (q .slot) (kindAt ws i) (number N (listOf M v) 1 (p .frame) 0) (firstSuper (children ws i)) (superCall (children ws i)) (opOf (p .act .op)))
+  pub does : Does (switchesOf (v .switches)) (q .ctx) (actC N (switchesOf (v .switches)) q i (kindAt ws i) (attrAt ws i) (nameAt ws i) (children ws i)) (actIn p)
+  pub says : Says (passIn p) (passOf b sc (q .slot) (kindAt ws i) (number N (listOf M v) 1 (frameIn p) 0) (firstSuper (children ws i)) (superCall (children ws i)) (opOf (p .op)))

@@ -4,12 +4,11 @@ pub mod plans;
 mod top;
 pub mod walkers;
 
-use acts::act::Act;
 use acts::act::Spot;
 use acts::act::Words;
 use acts::context::at_program;
 use acts::switches::Switches;
-use passes::Pass;
+use passes::Becomes;
 use passes::slots::FREE;
 use passes::states::COPY;
 use walkers::list;
@@ -28,24 +27,29 @@ pub struct Walk {
     pub count: usize,
 }
 
-// What module 7 does in a list: the binding that is assigned, and the state of its first row.
-pub struct Scan {
+// A list of siblings, from row `from` to row `end`, and how it is walked: the binding that module 7
+// assigns in it and the state of its first row, and where the first one and the later ones are.
+pub struct Siblings {
+    pub from: usize,
+    pub end: usize,
     pub bind: usize,
     pub state: usize,
+    pub one: Spot,
+    pub more: Spot,
 }
 
-// All that is decided of a row before it is written: its number and end, where it is, the binding that
-// module 7 assigns around it, its words, what becomes of it, the frame inside it, and what module 7
-// says of it.
+// All that is decided of a row before it is written: its children, where it is, the binding that
+// module 7 assigns around it, its words, what becomes of it, and what module 7 says of it: whether it
+// becomes a Sequence, whether the assignment goes behind it, and the state of the rows after it.
 pub struct Plan {
-    pub row: usize,
-    pub end: usize,
+    pub inner: Siblings,
     pub spot: Spot,
     pub bind: usize,
     pub words: Words,
-    pub act: Act,
-    pub frame: usize,
-    pub pass: Pass,
+    pub op: Becomes,
+    pub met: bool,
+    pub first: bool,
+    pub next: usize,
 }
 
 // The whole result, from row 0 on. Over no bytes it only counts.
@@ -67,22 +71,13 @@ pub fn emit(
         context: at_program(),
         slot: FREE,
     };
-    let scan = Scan {
+    let all = Siblings {
+        from: 0,
+        end: n,
         bind: 0,
         state: COPY,
+        one: start,
+        more: start,
     };
-    list(
-        rows,
-        names,
-        text,
-        made,
-        walk,
-        scan,
-        start,
-        start,
-        0,
-        n,
-        out,
-        0,
-    )
+    list(rows, names, text, made, walk, all, out, 0)
 }

@@ -1,6 +1,6 @@
 // The plan of a row: decided before it is written, outside of the walkers.
 use crate::Plan;
-use crate::Scan;
+use crate::Siblings;
 use crate::Walk;
 use acts::act::Spot;
 use acts::act::Words;
@@ -77,15 +77,16 @@ pub fn plan_at(
     text: &[u8],
     made: &[u32],
     walk: Walk,
-    scan: Scan,
+    bind: usize,
+    state: usize,
     q: Spot,
     i: usize,
 ) -> Plan
     requires { ⌜ At (now rows) (rowsIn (now rows)) i ⌝ }
     requires { ⌜ GivenNames (now names) (now text) ⌝ }
     requires { ⌜ Holds (now made) walk (rowsIn (now rows)) ⌝ }
-    requires { ⌜ FramesBelow (walk .cap) (contextOf (q .context)) × (scan .bind ≤ 16384) ⌝ }
-    ensures { λ r. ⌜ Planned (namesOf (now (names .entry)) (now (text .entry))) (now (made .entry)) (words (now (rows .entry))) walk (scan .bind) (scan .state) (spotOf q) i r ⌝ }
+    requires { ⌜ FramesBelow (walk .cap) (contextOf (q .context)) × (bind ≤ 16384) ⌝ }
+    ensures { λ r. ⌜ Planned (namesOf (now (names .entry)) (now (text .entry))) (now (made .entry)) (words (now (rows .entry))) walk bind state (spotOf q) i r ⌝ }
     ensures { λ r. ⌜ RowPre (now (rows .entry)) (now (names .entry)) (now (text .entry)) (now (made .entry)) walk r ⌝ }
 {
     let act = row_act(rows, names, text, walk.switches, q, i);
@@ -99,9 +100,11 @@ pub fn plan_at(
     let frame = act.more.context.this_at;
     let m = entry(made, 4 * walk.cap + frame);
     let op = act.op;
+    let one = act.one;
+    let more = act.more;
     let pass = pass_of(
-        scan.bind,
-        scan.state,
+        bind,
+        state,
         q.slot,
         words.kind,
         m,
@@ -110,13 +113,20 @@ pub fn plan_at(
         op,
     );
     Plan {
-        row: i,
-        end,
+        inner: Siblings {
+            from: i + 1,
+            end,
+            bind: pass.bind,
+            state: pass.scan,
+            one,
+            more,
+        },
         spot: q,
-        bind: scan.bind,
+        bind,
         words,
-        act,
-        frame,
-        pass,
+        op,
+        met: pass.met,
+        first: pass.first,
+        next: pass.next,
     }
 }

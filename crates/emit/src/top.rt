@@ -1,5 +1,4 @@
 // Module 8, Top insertion: the Var of a frame.
-use crate::Plan;
 use crate::Walk;
 use insertion::insert_variable_statement_at_the_top_of_statements;
 use passes::closes;
@@ -11,14 +10,20 @@ ghost use Rattle.insertion.specs.Declared.{Held};
 ghost use Rattle.output.specs.Output.{Done};
 ghost use Rattle.emit.specs.Top.{topRows};
 
-// The Var of the frame that the row of a plan closes, or nothing.
-pub fn insert_at_the_top(made: &[u32], walk: Walk, plan: Plan, out: &mut [u8], at: usize) -> usize
-    requires { ⌜ Held (now made) (walk .cap) (walk .count) (plan .frame) ⌝ }
-    requires { ⌜ at + size (topRows (now made) walk (plan .spot .slot) (plan .words .kind) (plan .frame)) < 2 ^ 32 ⌝ }
-    ensures { λ r. ⌜ Done (now (out .entry)) at (topRows (now (made .entry)) walk (plan .spot .slot) (plan .words .kind) (plan .frame)) r (now (out .exit)) ⌝ }
+// The Var of the frame that a row of that kind and slot closes, or nothing.
+pub fn insert_at_the_top(
+    made: &[u32],
+    walk: Walk,
+    slot: usize,
+    kind: usize,
+    frame: usize,
+    out: &mut [u8],
+    at: usize,
+) -> usize
+    requires { ⌜ Held (now made) (walk .cap) (walk .count) frame ⌝ }
+    requires { ⌜ at + size (topRows (now made) walk slot kind frame) < 2 ^ 32 ⌝ }
+    ensures { λ r. ⌜ Done (now (out .entry)) at (topRows (now (made .entry)) walk slot kind frame) r (now (out .exit)) ⌝ }
 {
-    let kind = plan.words.kind;
-    let slot = plan.spot.slot;
     let closing = closes(slot, kind);
     if closing {
         let guarded = kind == PROGRAM;
@@ -27,7 +32,7 @@ pub fn insert_at_the_top(made: &[u32], walk: Walk, plan: Plan, out: &mut [u8], a
             made,
             walk.cap,
             walk.count,
-            plan.frame,
+            frame,
             guarded,
             late,
             out,

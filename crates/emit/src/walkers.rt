@@ -1,7 +1,7 @@
 // The walkers: "Statements hold expressions, which hold functions and classes, which hold statements."
 // Each writes what a plan says from row `at` on, and the answer is the next row's number.
 use crate::Plan;
-use crate::Scan;
+use crate::Siblings;
 use crate::Walk;
 use crate::identifiers::accessor_identifier;
 use crate::identifiers::captured_identifier;
@@ -11,8 +11,8 @@ use crate::plans::is_function;
 use crate::plans::is_statement;
 use crate::plans::plan_at;
 use crate::top::insert_at_the_top;
-use acts::act::Spot;
 use acts::act::Words;
+use acts::context::Context;
 use bindings::frame::Frame;
 use output::append;
 use output::inserted::assignment;
@@ -24,16 +24,16 @@ ghost use mathlib.Core.Path.{_≡_};
 ghost use mathlib.Core.Bool.{Bool, true, false, _||_};
 ghost use lib.Dec.{eqb};
 ghost use Prim.Native.Nat.{ℕ, _+_, _*_, _-_, _<_, _≤_, _^_};
-ghost use Rattle.rows.specs.Kinds.{Ident, Member, Call};
+ghost use Rattle.rows.specs.Kinds.{Ident, Member, Call, Sequence};
 ghost use Rattle.rows.specs.Forest.{Rows.none, Rows.node, size};
 ghost use Rattle.steps.specs.Outcome.{namesOf};
 ghost use Rattle.steps.specs.Slots.{wrapped};
+ghost use Rattle.steps.specs.AfterSuper as after;
 ghost use Rattle.steps.specs.Bindings.{number};
-ghost use Rattle.acts.specs.Deciding.{spotOf};
 ghost use Rattle.output.specs.Output.{Done};
 ghost use Rattle.emit.specs.Walkers.{isStatement};
 ghost use Rattle.emit.specs.Idents.{thisRow};
-ghost use Rattle.emit.specs.Plans.{listOf, listed, inside, topped, built, dressed, ListPre, RowPre, Fit};
+ghost use Rattle.emit.specs.Plans.{listOf, inside, topped, built, dressed, InnerPre, RowPre, Fit};
 
 const EXPR_STMT: u32 = kinds::EXPR_STMT as u32;
 
@@ -47,81 +47,41 @@ const BODY: u32 = kinds::BODY as u32;
 
 const SEQUENCE: u32 = kinds::SEQUENCE as u32;
 
-// A list of siblings, the first at `one`, the later ones at `more`.
+// A list of siblings.
 pub fn list(
     rows: &[u8],
     names: &[u8],
     text: &[u8],
     made: &[u32],
     walk: Walk,
-    scan: Scan,
-    one: Spot,
-    more: Spot,
-    from: usize,
-    end: usize,
+    siblings: Siblings,
     out: &mut [u8],
     at: usize,
 ) -> usize
-    requires { ⌜ ListPre (now rows) (now names) (now text) (now made) walk (scan .bind) (spotOf one) (spotOf more) from end ⌝ }
-    requires { ⌜ at + size (listed (now rows) (now names) (now text) (now made) walk (scan .bind) (scan .state) (spotOf one) (spotOf more) from end) < 2 ^ 32 ⌝ }
-    ensures { λ r. ⌜ Done (now (out .entry)) at (listed (now (rows .entry)) (now (names .entry)) (now (text .entry)) (now (made .entry)) walk (scan .bind) (scan .state) (spotOf one) (spotOf more) from end) r (now (out .exit)) ⌝ }
+    requires { ⌜ InnerPre (now rows) (now names) (now text) (now made) walk siblings ⌝ }
+    requires { ⌜ at + size (inside (now rows) (now names) (now text) (now made) walk siblings) < 2 ^ 32 ⌝ }
+    ensures { λ r. ⌜ Done (now (out .entry)) at (inside (now (rows .entry)) (now (names .entry)) (now (text .entry)) (now (made .entry)) walk siblings) r (now (out .exit)) ⌝ }
 {
-    let mut i = from;
-    let mut q = one;
-    let mut state = scan.state;
+    let end = siblings.end;
+    let bind = siblings.bind;
+    let more = siblings.more;
+    let mut i = siblings.from;
+    let mut q = siblings.one;
+    let mut state = siblings.state;
     let mut next = at;
     while i < end {
-        let here = Scan {
-            bind: scan.bind,
-            state,
-        };
-        let plan = plan_at(rows, names, text, made, walk, here, q, i);
+        let plan = plan_at(rows, names, text, made, walk, bind, state, q, i);
         let statement_kind = is_statement(plan.words.kind);
         if statement_kind & !(plan.spot.slot == WRAPPED) {
             next = statement(rows, names, text, made, walk, plan, out, next);
         } else {
             next = expression(rows, names, text, made, walk, plan, out, next);
         }
-        i = plan.end;
+        i = plan.inner.end;
         q = more;
-        state = plan.pass.next;
+        state = plan.next;
     }
     next
-}
-
-// What stands inside of a row.
-fn children(
-    rows: &[u8],
-    names: &[u8],
-    text: &[u8],
-    made: &[u32],
-    walk: Walk,
-    plan: Plan,
-    out: &mut [u8],
-    at: usize,
-) -> usize
-    requires { ⌜ RowPre (now rows) (now names) (now text) (now made) walk plan ⌝ }
-    requires { ⌜ at + size (inside (now rows) (now names) (now text) (now made) walk plan) < 2 ^ 32 ⌝ }
-    ensures { λ r. ⌜ Done (now (out .entry)) at (inside (now (rows .entry)) (now (names .entry)) (now (text .entry)) (now (made .entry)) walk plan) r (now (out .exit)) ⌝ }
-{
-    let scan = Scan {
-        bind: plan.pass.bind,
-        state: plan.pass.scan,
-    };
-    list(
-        rows,
-        names,
-        text,
-        made,
-        walk,
-        scan,
-        plan.act.one,
-        plan.act.more,
-        plan.row + 1,
-        plan.end,
-        out,
-        at,
-    )
 }
 
 // A row of these words around what stands inside.
@@ -131,15 +91,15 @@ fn around(
     text: &[u8],
     made: &[u32],
     walk: Walk,
-    plan: Plan,
+    inner: Siblings,
     head: Words,
     out: &mut [u8],
     at: usize,
 ) -> usize
-    requires { ⌜ RowPre (now rows) (now names) (now text) (now made) walk plan ⌝ }
+    requires { ⌜ InnerPre (now rows) (now names) (now text) (now made) walk inner ⌝ }
     requires { ⌜ Fit (head .kind) (head .attr) (head .name) ⌝ }
-    requires { ⌜ at + (1 + size (inside (now rows) (now names) (now text) (now made) walk plan)) < 2 ^ 32 ⌝ }
-    ensures { λ r. ⌜ Done (now (out .entry)) at (node (head .kind) (head .attr) (head .name) (inside (now (rows .entry)) (now (names .entry)) (now (text .entry)) (now (made .entry)) walk plan) none) r (now (out .exit)) ⌝ }
+    requires { ⌜ at + (1 + size (inside (now rows) (now names) (now text) (now made) walk inner)) < 2 ^ 32 ⌝ }
+    ensures { λ r. ⌜ Done (now (out .entry)) at (node (head .kind) (head .attr) (head .name) (inside (now (rows .entry)) (now (names .entry)) (now (text .entry)) (now (made .entry)) walk inner) none) r (now (out .exit)) ⌝ }
 {
     let first = append(
         out,
@@ -149,7 +109,7 @@ fn around(
         head.name as u32,
         0,
     );
-    let next = children(rows, names, text, made, walk, plan, out, first);
+    let next = list(rows, names, text, made, walk, inner, out, first);
     patch_end(out, at, next as u32);
     next
 }
@@ -170,8 +130,18 @@ fn statement(
     requires { ⌜ at + size (dressed (now rows) (now names) (now text) (now made) walk plan) < 2 ^ 32 ⌝ }
     ensures { λ r. ⌜ Done (now (out .entry)) at (dressed (now (rows .entry)) (now (names .entry)) (now (text .entry)) (now (made .entry)) walk plan) r (now (out .exit)) ⌝ }
 {
-    let next = around(rows, names, text, made, walk, plan, plan.words, out, at);
-    if !plan.pass.first {
+    let next = around(
+        rows,
+        names,
+        text,
+        made,
+        walk,
+        plan.inner,
+        plan.words,
+        out,
+        at,
+    );
+    if !plan.first {
         return next;
     }
     let inner = append(out, next, EXPR_STMT, 0, 0, 0);
@@ -192,7 +162,7 @@ fn expression(
     at: usize,
 ) -> usize
     requires { ⌜ RowPre (now rows) (now names) (now text) (now made) walk plan ⌝ }
-    requires { ⌜ plan .pass .first ≡ false ⌝ }
+    requires { ⌜ plan .first ≡ false ⌝ }
     requires { ⌜ at + size (dressed (now rows) (now names) (now text) (now made) walk plan) < 2 ^ 32 ⌝ }
     ensures { λ r. ⌜ Done (now (out .entry)) at (dressed (now (rows .entry)) (now (names .entry)) (now (text .entry)) (now (made .entry)) walk plan) r (now (out .exit)) ⌝ }
 {
@@ -219,21 +189,43 @@ fn undressed(
     at: usize,
 ) -> usize
     requires { ⌜ RowPre (now rows) (now names) (now text) (now made) walk plan ⌝ }
-    requires { ⌜ plan .pass .first ≡ false ⌝ }
+    requires { ⌜ plan .first ≡ false ⌝ }
     requires { ⌜ at + size (built (now rows) (now names) (now text) (now made) walk plan none) < 2 ^ 32 ⌝ }
     ensures { λ r. ⌜ Done (now (out .entry)) at (built (now (rows .entry)) (now (names .entry)) (now (text .entry)) (now (made .entry)) walk plan none) r (now (out .exit)) ⌝ }
 {
-    if plan.pass.met {
-        return sequence(rows, names, text, made, walk, plan, out, at);
+    if plan.met {
+        return sequence(
+            rows,
+            names,
+            text,
+            made,
+            walk,
+            plan.inner,
+            plan.words,
+            plan.bind,
+            out,
+            at,
+        );
     }
-    let act = plan.act;
-    let op = act.op;
+    let op = plan.op;
     match op {
         Becomes::Row { kind, attr, name } => {
             let head = Words { kind, attr, name };
-            kept(rows, names, text, made, walk, plan, head, out, at)
+            kept(
+                rows,
+                names,
+                text,
+                made,
+                walk,
+                plan.inner,
+                plan.spot.slot,
+                plan.words.kind,
+                head,
+                out,
+                at,
+            )
         }
-        Becomes::Drop => children(rows, names, text, made, walk, plan, out, at),
+        Becomes::Drop => list(rows, names, text, made, walk, plan.inner, out, at),
         Becomes::Name { usage, frame } => {
             captured_identifier(made, walk.cap, usage, frame, out, at)
         }
@@ -250,7 +242,8 @@ fn undressed(
                     text,
                     made,
                     walk,
-                    plan,
+                    plan.inner,
+                    plan.spot.context,
                     frame,
                     usage,
                     property,
@@ -264,7 +257,7 @@ fn undressed(
                 text,
                 made,
                 walk,
-                plan,
+                plan.inner,
                 frame,
                 usage,
                 property,
@@ -282,23 +275,37 @@ fn kept(
     text: &[u8],
     made: &[u32],
     walk: Walk,
-    plan: Plan,
+    inner: Siblings,
+    slot: usize,
+    kind: usize,
     head: Words,
     out: &mut [u8],
     at: usize,
 ) -> usize
-    requires { ⌜ RowPre (now rows) (now names) (now text) (now made) walk plan ⌝ }
+    requires { ⌜ InnerPre (now rows) (now names) (now text) (now made) walk inner ⌝ }
     requires { ⌜ Fit (head .kind) (head .attr) (head .name) ⌝ }
-    requires { ⌜ at + (1 + size (topped (now rows) (now names) (now text) (now made) walk plan)) < 2 ^ 32 ⌝ }
-    ensures { λ r. ⌜ Done (now (out .entry)) at (node (head .kind) (head .attr) (head .name) (topped (now (rows .entry)) (now (names .entry)) (now (text .entry)) (now (made .entry)) walk plan) none) r (now (out .exit)) ⌝ }
+    requires { ⌜ at + (1 + size (topped (now rows) (now names) (now text) (now made) walk slot kind inner)) < 2 ^ 32 ⌝ }
+    ensures { λ r. ⌜ Done (now (out .entry)) at (node (head .kind) (head .attr) (head .name) (topped (now (rows .entry)) (now (names .entry)) (now (text .entry)) (now (made .entry)) walk slot kind inner) none) r (now (out .exit)) ⌝ }
 {
-    if is_function(plan.words.kind) {
-        return function(rows, names, text, made, walk, plan, head, out, at);
+    if is_function(kind) {
+        return function(
+            rows,
+            names,
+            text,
+            made,
+            walk,
+            inner,
+            slot,
+            kind,
+            head,
+            out,
+            at,
+        );
     }
-    if is_class(plan.words.kind) {
-        return class(rows, names, text, made, walk, plan, head, out, at);
+    if is_class(kind) {
+        return class(rows, names, text, made, walk, inner, head, out, at);
     }
-    around(rows, names, text, made, walk, plan, head, out, at)
+    around(rows, names, text, made, walk, inner, head, out, at)
 }
 
 // A part of a function, or another row that may close a frame: the frame's Var goes first.
@@ -308,15 +315,17 @@ fn function(
     text: &[u8],
     made: &[u32],
     walk: Walk,
-    plan: Plan,
+    inner: Siblings,
+    slot: usize,
+    kind: usize,
     head: Words,
     out: &mut [u8],
     at: usize,
 ) -> usize
-    requires { ⌜ RowPre (now rows) (now names) (now text) (now made) walk plan ⌝ }
+    requires { ⌜ InnerPre (now rows) (now names) (now text) (now made) walk inner ⌝ }
     requires { ⌜ Fit (head .kind) (head .attr) (head .name) ⌝ }
-    requires { ⌜ at + (1 + size (topped (now rows) (now names) (now text) (now made) walk plan)) < 2 ^ 32 ⌝ }
-    ensures { λ r. ⌜ Done (now (out .entry)) at (node (head .kind) (head .attr) (head .name) (topped (now (rows .entry)) (now (names .entry)) (now (text .entry)) (now (made .entry)) walk plan) none) r (now (out .exit)) ⌝ }
+    requires { ⌜ at + (1 + size (topped (now rows) (now names) (now text) (now made) walk slot kind inner)) < 2 ^ 32 ⌝ }
+    ensures { λ r. ⌜ Done (now (out .entry)) at (node (head .kind) (head .attr) (head .name) (topped (now (rows .entry)) (now (names .entry)) (now (text .entry)) (now (made .entry)) walk slot kind inner) none) r (now (out .exit)) ⌝ }
 {
     let first = append(
         out,
@@ -326,8 +335,9 @@ fn function(
         head.name as u32,
         0,
     );
-    let inner = insert_at_the_top(made, walk, plan, out, first);
-    let next = children(rows, names, text, made, walk, plan, out, inner);
+    let frame = inner.more.context.this_at;
+    let top = insert_at_the_top(made, walk, slot, kind, frame, out, first);
+    let next = list(rows, names, text, made, walk, inner, out, top);
     patch_end(out, at, next as u32);
     next
 }
@@ -339,38 +349,40 @@ fn class(
     text: &[u8],
     made: &[u32],
     walk: Walk,
-    plan: Plan,
+    inner: Siblings,
     head: Words,
     out: &mut [u8],
     at: usize,
 ) -> usize
-    requires { ⌜ RowPre (now rows) (now names) (now text) (now made) walk plan ⌝ }
+    requires { ⌜ InnerPre (now rows) (now names) (now text) (now made) walk inner ⌝ }
     requires { ⌜ Fit (head .kind) (head .attr) (head .name) ⌝ }
-    requires { ⌜ at + (1 + size (inside (now rows) (now names) (now text) (now made) walk plan)) < 2 ^ 32 ⌝ }
-    ensures { λ r. ⌜ Done (now (out .entry)) at (node (head .kind) (head .attr) (head .name) (inside (now (rows .entry)) (now (names .entry)) (now (text .entry)) (now (made .entry)) walk plan) none) r (now (out .exit)) ⌝ }
+    requires { ⌜ at + (1 + size (inside (now rows) (now names) (now text) (now made) walk inner)) < 2 ^ 32 ⌝ }
+    ensures { λ r. ⌜ Done (now (out .entry)) at (node (head .kind) (head .attr) (head .name) (inside (now (rows .entry)) (now (names .entry)) (now (text .entry)) (now (made .entry)) walk inner) none) r (now (out .exit)) ⌝ }
 {
-    around(rows, names, text, made, walk, plan, head, out, at)
+    around(rows, names, text, made, walk, inner, head, out, at)
 }
 
-// A called Super, in a Sequence with the assignment.
+// A called Super, in a Sequence with the assignment of binding `b`.
 fn sequence(
     rows: &[u8],
     names: &[u8],
     text: &[u8],
     made: &[u32],
     walk: Walk,
-    plan: Plan,
+    inner: Siblings,
+    head: Words,
+    b: usize,
     out: &mut [u8],
     at: usize,
 ) -> usize
-    requires { ⌜ RowPre (now rows) (now names) (now text) (now made) walk plan ⌝ }
-    requires { ⌜ (plan .pass .met ≡ true) × (plan .pass .first ≡ false) ⌝ }
-    requires { ⌜ at + size (built (now rows) (now names) (now text) (now made) walk plan none) < 2 ^ 32 ⌝ }
-    ensures { λ r. ⌜ Done (now (out .entry)) at (built (now (rows .entry)) (now (names .entry)) (now (text .entry)) (now (made .entry)) walk plan none) r (now (out .exit)) ⌝ }
+    requires { ⌜ InnerPre (now rows) (now names) (now text) (now made) walk inner ⌝ }
+    requires { ⌜ Fit (head .kind) (head .attr) (head .name) × (b ≤ 16384) ⌝ }
+    requires { ⌜ at + (6 + size (inside (now rows) (now names) (now text) (now made) walk inner)) < 2 ^ 32 ⌝ }
+    ensures { λ r. ⌜ Done (now (out .entry)) at (node Sequence 0 0 (node (head .kind) (head .attr) (head .name) (inside (now (rows .entry)) (now (names .entry)) (now (text .entry)) (now (made .entry)) walk inner) (after.assignment b)) none) r (now (out .exit)) ⌝ }
 {
     let first = append(out, at, SEQUENCE, 0, 0, 0);
-    let next = around(rows, names, text, made, walk, plan, plan.words, out, first);
-    let last = assignment(out, next, plan.bind as u32);
+    let next = around(rows, names, text, made, walk, inner, head, out, first);
+    let last = assignment(out, next, b as u32);
     patch_end(out, at, last as u32);
     last
 }
@@ -382,17 +394,17 @@ fn transform_member_expression_for_super(
     text: &[u8],
     made: &[u32],
     walk: Walk,
-    plan: Plan,
+    inner: Siblings,
     frame: usize,
     usage: usize,
     property: usize,
     out: &mut [u8],
     at: usize,
 ) -> usize
-    requires { ⌜ RowPre (now rows) (now names) (now text) (now made) walk plan ⌝ }
+    requires { ⌜ InnerPre (now rows) (now names) (now text) (now made) walk inner ⌝ }
     requires { ⌜ (frame < walk .cap) × ((eqb usage 3 || eqb usage 4) ≡ true) ⌝ }
-    requires { ⌜ at + (2 + size (inside (now rows) (now names) (now text) (now made) walk plan)) < 2 ^ 32 ⌝ }
-    ensures { λ r. ⌜ Done (now (out .entry)) at (node Call 0 0 (node Ident 1 (number (namesOf (now (names .entry)) (now (text .entry))) (listOf (now (made .entry)) walk) usage frame property) none (inside (now (rows .entry)) (now (names .entry)) (now (text .entry)) (now (made .entry)) walk plan)) none) r (now (out .exit)) ⌝ }
+    requires { ⌜ at + (2 + size (inside (now rows) (now names) (now text) (now made) walk inner)) < 2 ^ 32 ⌝ }
+    ensures { λ r. ⌜ Done (now (out .entry)) at (node Call 0 0 (node Ident 1 (number (namesOf (now (names .entry)) (now (text .entry))) (listOf (now (made .entry)) walk) usage frame property) none (inside (now (rows .entry)) (now (names .entry)) (now (text .entry)) (now (made .entry)) walk inner)) none) r (now (out .exit)) ⌝ }
 {
     let callee = append(out, at, CALL, 0, 0, 0);
     let cap = walk.cap;
@@ -401,7 +413,7 @@ fn transform_member_expression_for_super(
         count: walk.count,
     };
     let first = accessor_identifier(names, text, made, cap, opened, usage, property, out, callee);
-    let next = children(rows, names, text, made, walk, plan, out, first);
+    let next = list(rows, names, text, made, walk, inner, out, first);
     patch_end(out, at, next as u32);
     next
 }
@@ -413,17 +425,18 @@ fn transform_call_expression_for_super(
     text: &[u8],
     made: &[u32],
     walk: Walk,
-    plan: Plan,
+    inner: Siblings,
+    context: Context,
     frame: usize,
     usage: usize,
     property: usize,
     out: &mut [u8],
     at: usize,
 ) -> usize
-    requires { ⌜ RowPre (now rows) (now names) (now text) (now made) walk plan ⌝ }
-    requires { ⌜ (frame < walk .cap) × ((eqb usage 3 || eqb usage 4) ≡ true) ⌝ }
-    requires { ⌜ at + (4 + size (inside (now rows) (now names) (now text) (now made) walk plan)) < 2 ^ 32 ⌝ }
-    ensures { λ r. ⌜ Done (now (out .entry)) at (node Member 1 0 (node Call 0 0 (node Ident 1 (number (namesOf (now (names .entry)) (now (text .entry))) (listOf (now (made .entry)) walk) usage frame property) none (inside (now (rows .entry)) (now (names .entry)) (now (text .entry)) (now (made .entry)) walk plan)) none) (thisRow (now (made .entry)) (walk .cap) (plan .spot .context .«takes_this») (plan .spot .context .«this_at»))) r (now (out .exit)) ⌝ }
+    requires { ⌜ InnerPre (now rows) (now names) (now text) (now made) walk inner ⌝ }
+    requires { ⌜ (context .«this_at» < walk .cap) × ((frame < walk .cap) × ((eqb usage 3 || eqb usage 4) ≡ true)) ⌝ }
+    requires { ⌜ at + (4 + size (inside (now rows) (now names) (now text) (now made) walk inner)) < 2 ^ 32 ⌝ }
+    ensures { λ r. ⌜ Done (now (out .entry)) at (node Member 1 0 (node Call 0 0 (node Ident 1 (number (namesOf (now (names .entry)) (now (text .entry))) (listOf (now (made .entry)) walk) usage frame property) none (inside (now (rows .entry)) (now (names .entry)) (now (text .entry)) (now (made .entry)) walk inner)) none) (thisRow (now (made .entry)) (walk .cap) (context .«takes_this») (context .«this_at»))) r (now (out .exit)) ⌝ }
 {
     let call = append(out, at, MEMBER, 1, 0, 0);
     let this = transform_member_expression_for_super(
@@ -432,7 +445,7 @@ fn transform_call_expression_for_super(
         text,
         made,
         walk,
-        plan,
+        inner,
         frame,
         usage,
         property,
@@ -440,5 +453,5 @@ fn transform_call_expression_for_super(
         call,
     );
     patch_end(out, at, this as u32);
-    get_this_identifier(made, walk.cap, plan.spot.context, out, this)
+    get_this_identifier(made, walk.cap, context, out, this)
 }
