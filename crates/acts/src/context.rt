@@ -8,12 +8,12 @@ ghost use Rattle.steps.specs.Context.{enter, start};
 ghost use Rattle.acts.specs.View.{switchesOf, contextOf};
 
 pub struct Context {
-    pub takes_this: bool,
     pub this_at: usize,
-    pub takes_super: bool,
     pub super_at: usize,
-    pub takes_arguments: bool,
     pub arguments_at: usize,
+    pub takes_this: bool,
+    pub takes_super: bool,
+    pub takes_arguments: bool,
 }
 
 // At Program.
