@@ -13,12 +13,12 @@ use Rattle.steps.specs.Joining.{join}
 use Rattle.steps.specs.Bindings.{Binding, Binding.bind}
 use Rattle.steps.specs.TopInsertion.{headN, tailN, paramNumbers, pastProp, past, accessor, accessorDecls}
 use Rattle.output.specs.Output.{Done}
-use Rattle.output.specs.Insertions.{accessorOf}
+use Rattle.output.specs.Insertions.{accessorOf, accessorDecl}
 use Rattle.output.proofs.Loops.{Left, all-left, turn, room-left, none-left}
 use Rattle.output.proofs.Shapes.{accessor-heads}
 use Rattle.bindings.specs.Search.{ofClass}
 use Rattle.bindings.specs.Store.{bindAt, binds, Store}
-use Rattle.insertion.specs.Declared.{Held, frameAccessors, accessorDecl, paramAfter}
+use Rattle.insertion.specs.Declared.{Held, frameAccessors, paramAfter}
 use Rattle.insertion.proofs.Links.{Link, from, Passes, link-first, all-from, here-from, link-next, rest-from, link-less}
 
 -- numbers of params, and Declarators of accessors, pass over all other bindings

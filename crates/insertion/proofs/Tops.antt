@@ -14,12 +14,12 @@ use Rattle.steps.specs.Naming.{Names}
 use Rattle.steps.specs.Bindings.{Binding, Binding.bind, number}
 use Rattle.steps.specs.Fused.{declared}
 use Rattle.steps.specs.TopInsertion.{past, accessor, argumentsDecl, accessorDecls, paramNumbers, thisDecl, varFirst}
-use Rattle.output.specs.Insertions.{accessorOf}
+use Rattle.output.specs.Insertions.{accessorOf, accessorDecl}
 use Rattle.output.proofs.Writing.{size-join, size-node, size-none}
 use Rattle.output.proofs.Shapes.{this-none, arguments-none, arguments-join, size-arguments, size-late, size-here}
 use Rattle.bindings.specs.Store.{binds, Store}
 use Rattle.bindings.proofs.Numbered.{this-number, arguments-number}
-use Rattle.insertion.specs.Declared.{Held, frameAccessors, frameDecls, accessorDecl, paramAfter, bareAt}
+use Rattle.insertion.specs.Declared.{Held, frameAccessors, frameDecls, paramAfter, bareAt}
 use Rattle.insertion.proofs.Links.{link-first}
 use Rattle.insertion.proofs.Declaring.{declsFrom, decls-all, decls-next}
 

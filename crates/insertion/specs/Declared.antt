@@ -4,10 +4,8 @@ use mathlib.Core.Bool.{Bool, cond, _&&_}
 use Prim.Native.Nat.{ℕ, _+_, _*_, _≤_, _<_}
 use lib.Dec.{eqb}
 use lib.ListN.{getD}
-use Rattle.rows.specs.Kinds.{Declarator}
-use Rattle.rows.specs.Forest.{Rows, Rows.none, Rows.node}
+use Rattle.rows.specs.Forest.{Rows}
 use Rattle.steps.specs.TopInsertion.{argumentsDecl, accessorDecls, paramNumbers, thisDecl}
-use Rattle.output.specs.Insertions.{accessorOf}
 use Rattle.bindings.specs.Store.{binds, Store}
 
 -- what a frame's Var is written from: the array with its count bindings, and the frame's row
@@ -23,10 +21,6 @@ frameAccessors M cap count f t = accessorDecls f 1 (paramNumbers f 1 (binds M ca
 -- "arguments (guarded at Program), accessors by first use, this": the numbers of the captures stand in the array
 unfoldable pub frameDecls : List ℕ → (cap count frame : ℕ) (g l : Bool) → Rows
 frameDecls M cap count f g l = argumentsDecl (getD M (5 * cap + f) 0) g (frameAccessors M cap count f (thisDecl (getD M (4 * cap + f) 0) l))
-
--- the Declarator of accessor b: u is its use, x its property, p and v are its params' numbers
-abbrev pub accessorDecl : (b u x p v : ℕ) → Rows
-accessorDecl b u x p v = node Declarator 1 b (accessorOf u x p v) none
 
 -- the param behind p in its chain, where p is taken; 0: there is none
 abbrev pub paramAfter : List ℕ → (cap p : ℕ) → (taken : Bool) → ℕ

@@ -2,19 +2,22 @@
 ghost use mathlib.Core.Path.{_≡_};
 ghost use Prim.Native.Nat.{_+_, _*_, _<_, _≤_, _^_};
 ghost use lib.ListN.{length, getD};
-ghost use Rattle.rows.specs.Forest.{Rows.none, size};
+ghost use Rattle.rows.specs.Kinds.{Var};
+ghost use Rattle.rows.specs.Forest.{Rows.none, Rows.node, size};
 ghost use Rattle.steps.specs.TopInsertion.{varFirst};
 ghost use Rattle.output.specs.Output.{Done};
-ghost use Rattle.insertion.specs.Declared.{Held, frameAccessors, frameDecls, accessorDecl, paramAfter, bareAt};
+ghost use Rattle.output.specs.Held.{grown};
+ghost use Rattle.insertion.specs.Declared.{Held, frameAccessors, frameDecls, paramAfter, bareAt};
 use bindings::entry;
-use output::append;
 use output::inserted;
-use output::patch_end;
+use output::writer::Writer;
+use output::writer::close;
+use output::writer::finish;
+use output::writer::new;
+use output::writer::put;
 use rows::kinds;
 
 const VAR: u32 = kinds::VAR as u32;
-
-const DECLARATOR: u32 = kinds::DECLARATOR as u32;
 
 // Word j of the array.
 fn word(made: &[u32], j: usize) -> u32
@@ -38,25 +41,6 @@ fn after(made: &[u32], cap: usize, p: usize, taken: bool) -> usize
     p
 }
 
-// The Declarator of accessor `b`.
-fn accessor_declarator(
-    out: &mut [u8],
-    at: usize,
-    b: u32,
-    usage: u32,
-    property: u32,
-    prop: u32,
-    value: u32,
-) -> usize
-    requires { ⌜ at + size (accessorDecl b usage property prop value) < 2 ^ 32 ⌝ }
-    ensures { λ r. ⌜ Done (now (out .entry)) at (accessorDecl b usage property prop value) r (now (out .exit)) ⌝ }
-{
-    let first = append(out, at, DECLARATOR, 1, b, 0);
-    let next = inserted::accessor(out, first, usage, property, prop, value);
-    patch_end(out, at, next as u32);
-    next
-}
-
 // The Declarators of a frame's accessors, by first use: along the chain of accessors, and beside it
 // along that of their parameters.
 fn accessor_declarators(
@@ -78,7 +62,7 @@ fn accessor_declarators(
         let usage = word(made, b);
         let property = word(made, cap + b);
         let v = after(made, cap, p, property == 0);
-        w = accessor_declarator(out, w, b as u32, usage, property, p as u32, v as u32);
+        w = inserted::accessor_declarator(out, w, b as u32, usage, property, p as u32, v as u32);
         p = after(made, cap, v, usage == 4);
         b = entry(made, 3 * cap + b);
     }
@@ -108,8 +92,7 @@ fn declarators(
     out: &mut [u8],
     at: usize,
 ) -> usize
-    requires { ⌜ Held (now made) cap count frame ⌝ }
-    requires { ⌜ at + size (frameDecls (now made) cap count frame guarded late) < 2 ^ 32 ⌝ }
+    requires { ⌜ Held (now made) cap count frame × (at + size (frameDecls (now made) cap count frame guarded late) < 2 ^ 32) ⌝ }
     ensures { λ r. ⌜ Done (now (out .entry)) at (frameDecls (now (made .entry)) cap count frame guarded late) r (now (out .exit)) ⌝ }
 {
     let arguments = word(made, 5 * cap + frame);
@@ -117,6 +100,55 @@ fn declarators(
     let first = inserted::arguments_declarator(out, at, arguments, guarded);
     let last = accessor_declarators(made, cap, count, frame, out, first);
     inserted::this_declarator(out, last, this, late)
+}
+
+// The same behind what a writer has put.
+fn declare<'a, 'm>(
+    w: Writer<'a>,
+    made: &'m [u32],
+    cap: usize,
+    count: usize,
+    frame: usize,
+    guarded: bool,
+    late: bool,
+) -> Writer<'a>
+    requires { ⌜ Held (now made) cap count frame × (w .at + size (frameDecls (now made) cap count frame guarded late) < 2 ^ 32) ⌝ }
+    ensures { λ r. ⌜ r ≡ grown (w .entry) (frameDecls (now (made .entry)) cap count frame guarded late) ⌝ }
+{
+    let at = w.at;
+    let next = declarators(made, cap, count, frame, guarded, late, &mut *w.rows, at);
+    Writer {
+        rows: w.rows,
+        at: next,
+    }
+}
+
+// The Var with its Declarators, through one writer.
+fn variable_statement(
+    out: &mut [u8],
+    at: usize,
+    made: &[u32],
+    cap: usize,
+    count: usize,
+    frame: usize,
+    guarded: bool,
+    late: bool,
+) -> usize
+    requires { ⌜ Held (now made) cap count frame × (at + 1 + size (frameDecls (now made) cap count frame guarded late) < 2 ^ 32) ⌝ }
+    ensures { λ r. ⌜ Done (now (out .entry)) at (node Var 0 0 (frameDecls (now (made .entry)) cap count frame guarded late) none) r (now (out .exit)) ⌝ }
+{
+    finish(close(
+        declare(
+            put(new(out, at), VAR, 0, 0, 0),
+            made,
+            cap,
+            count,
+            frame,
+            guarded,
+            late,
+        ),
+        at,
+    ))
 }
 
 // The Var that goes first in a frame; nothing where the frame has no capture and no accessor. The
@@ -138,8 +170,5 @@ pub fn insert_variable_statement_at_the_top_of_statements(
     if is_bare(made, cap, frame) {
         return at;
     }
-    let first = append(out, at, VAR, 0, 0, 0);
-    let next = declarators(made, cap, count, frame, guarded, late, out, first);
-    patch_end(out, at, next as u32);
-    next
+    variable_statement(out, at, made, cap, count, frame, guarded, late)
 }

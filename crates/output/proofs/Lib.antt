@@ -4,3 +4,6 @@ pub mod Recording
 pub mod Loops
 pub mod Placing
 pub mod Shapes
+pub mod Runs
+pub mod Lending
+pub mod Holding

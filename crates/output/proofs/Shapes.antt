@@ -52,9 +52,6 @@ pub size-arguments : {b : ℕ} (g : Bool) → (b ≡ 0 → ⊥) → size (argume
 unfolding size
 size-arguments g h = ap size (arguments-some g none h)
 
-pub size-guarded : (g : Bool) → size (argumentsRow g) ≡ 1
-size-guarded g = size-leaf 27 (cond g 1 0) 0
-
 -- before other rows, it stands beside them
 pub arguments-join : (b : ℕ) (g : Bool) (t : Rows) → argumentsDecl b g t ≡ join (argumentsDecl b g none) t
 unfolding argumentsDecl

@@ -29,3 +29,7 @@ bodyRow u x p v =
 -- "Accessors are expression Arrows .. and stay Arrows."
 unfoldable pub accessorOf : (u x p v : ℕ) → Rows
 accessorOf u x p v = node Arrow 2 0 (join (paramsRow u x p v) (bodyRow u x p v)) none
+
+-- the Declarator of accessor b: u is its use, x its property, p and v are its params' numbers
+abbrev pub accessorDecl : (b u x p v : ℕ) → Rows
+accessorDecl b u x p v = node Declarator 1 b (accessorOf u x p v) none

@@ -1,3 +1,4 @@
 pub mod Output
 pub mod Bytes
 pub mod Insertions
+pub mod Held

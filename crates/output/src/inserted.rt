@@ -1,13 +1,21 @@
 // The rows that modules 7 and 8 put in. Each function writes them from row `at` on, and the answer
 // is the next row's number.
+ghost use mathlib.Core.Path.{_≡_};
 ghost use Prim.Native.Nat.{_+_, _<_, _^_};
 ghost use Rattle.rows.specs.Forest.{Rows.none, size};
 ghost use Rattle.steps.specs.AfterSuper.{assignment};
 ghost use Rattle.steps.specs.TopInsertion.{thisDecl, argumentsDecl, accessRow};
 ghost use Rattle.output.specs.Output.{Done};
-ghost use Rattle.output.specs.Insertions.{argumentsRow, paramIf, paramsRow, bodyRow, accessorOf};
+ghost use Rattle.output.specs.Insertions.{paramIf, paramsRow, bodyRow, accessorOf, accessorDecl};
+ghost use Rattle.output.specs.Held.{grown};
 use super::append;
 use super::patch_end;
+use super::writer::Writer;
+use super::writer::append_nested;
+use super::writer::close;
+use super::writer::finish;
+use super::writer::new;
+use super::writer::put;
 use rows::kinds;
 
 const DECLARATOR: u32 = kinds::DECLARATOR as u32;
@@ -38,9 +46,7 @@ pub fn assignment(out: &mut [u8], at: usize, b: u32) -> usize
     ensures { λ r. ⌜ Done (now (out .entry)) at (assignment b) r (now (out .exit)) ⌝ }
 {
     let target = append(out, at, ASSIGN, 0, 0, 0);
-    let ident = append(out, target, TARGET, 0, 0, 0);
-    let this = append(out, ident, IDENT, 1, b, (ident + 1) as u32);
-    patch_end(out, target, this as u32);
+    let this = append_nested(out, target, TARGET, 0, 0, IDENT, 1, b, (target + 2) as u32);
     let next = append(out, this, THIS, 0, 0, (this + 1) as u32);
     patch_end(out, at, next as u32);
     next
@@ -57,10 +63,7 @@ pub fn this_declarator(out: &mut [u8], at: usize, b: u32, late: bool) -> usize
     if late {
         return append(out, at, DECLARATOR, 1, b, (at + 1) as u32);
     }
-    let first = append(out, at, DECLARATOR, 1, b, 0);
-    let next = append(out, first, THIS, 0, 0, (first + 1) as u32);
-    patch_end(out, at, next as u32);
-    next
+    append_nested(out, at, DECLARATOR, 1, b, THIS, 0, 0, (at + 2) as u32)
 }
 
 // The Declarator of the captured `arguments`, guarded at Program; none where `b` is 0.
@@ -71,22 +74,11 @@ pub fn arguments_declarator(out: &mut [u8], at: usize, b: u32, guarded: bool) ->
     if b == 0 {
         return at;
     }
-    let first = append(out, at, DECLARATOR, 1, b, 0);
-    let next = arguments_row(out, first, guarded);
-    patch_end(out, at, next as u32);
-    next
-}
-
-// The guarded or plain `arguments`.
-fn arguments_row(out: &mut [u8], at: usize, guarded: bool) -> usize
-    requires { ⌜ at + 1 < 2 ^ 32 ⌝ }
-    ensures { λ r. ⌜ Done (now (out .entry)) at (argumentsRow guarded) r (now (out .exit)) ⌝ }
-{
-    let end = (at + 1) as u32;
+    let end = (at + 2) as u32;
     if guarded {
-        return append(out, at, ARGUMENTS, 1, 0, end);
+        return append_nested(out, at, DECLARATOR, 1, b, ARGUMENTS, 1, 0, end);
     }
-    append(out, at, ARGUMENTS, 0, 0, end)
+    append_nested(out, at, DECLARATOR, 1, b, ARGUMENTS, 0, 0, end)
 }
 
 // `super.p`, where `x` is the number of p's name, or `super[prop]` where `x` is 0 and prop is binding `b`.
@@ -101,10 +93,7 @@ pub fn access_row(out: &mut [u8], at: usize, x: u32, b: u32) -> usize
         patch_end(out, at, next as u32);
         return next;
     }
-    let first = append(out, at, MEMBER, 0, x, 0);
-    let next = append(out, first, SUPER, 0, 0, (first + 1) as u32);
-    patch_end(out, at, next as u32);
-    next
+    append_nested(out, at, MEMBER, 0, x, SUPER, 0, 0, (at + 2) as u32)
 }
 
 // The Declarator of a param, where there is one.
@@ -165,4 +154,48 @@ pub fn accessor(
     let next = body_row(out, mid, usage, property, prop, value);
     patch_end(out, at, next as u32);
     next
+}
+
+// The same behind what a writer has put.
+fn accessor_behind<'a>(
+    w: Writer<'a>,
+    usage: u32,
+    property: u32,
+    prop: u32,
+    value: u32,
+) -> Writer<'a>
+    requires { ⌜ w .at + size (accessorOf usage property prop value) < 2 ^ 32 ⌝ }
+    ensures { λ r. ⌜ r ≡ grown (w .entry) (accessorOf usage property prop value) ⌝ }
+{
+    let at = w.at;
+    let next = accessor(&mut *w.rows, at, usage, property, prop, value);
+    Writer {
+        rows: w.rows,
+        at: next,
+    }
+}
+
+// The Declarator of accessor `b`, through one writer.
+pub fn accessor_declarator(
+    out: &mut [u8],
+    at: usize,
+    b: u32,
+    usage: u32,
+    property: u32,
+    prop: u32,
+    value: u32,
+) -> usize
+    requires { ⌜ at + size (accessorDecl b usage property prop value) < 2 ^ 32 ⌝ }
+    ensures { λ r. ⌜ Done (now (out .entry)) at (accessorDecl b usage property prop value) r (now (out .exit)) ⌝ }
+{
+    finish(close(
+        accessor_behind(
+            put(new(out, at), DECLARATOR, 1, b, 0),
+            usage,
+            property,
+            prop,
+            value,
+        ),
+        at,
+    ))
 }

@@ -13,32 +13,22 @@ add-append : tie.Need-add-append
 add-append c = search needs
 
 cast-append : tie.Need-cast-append
-cast-append c =
-    let z = size-computed (c .before .before .before .before .before .before .before .args .b) (c .before .before .before .before .before .if1 .taken) in
-    omega arith
+cast-append c = let z = size-computed (c .before .before .before .before .before .before .before .args .b) (c .before .before .before .before .before .if1 .taken) in omega arith
 
 append-requires-2 : tie.Need-append-requires-2
-append-requires-2 c κs =
-    let z = size-computed (c .before .before .before .before .before .before .before .args .b) (c .before .before .before .before .before .if1 .taken) in
-    omega arith
+append-requires-2 c κs = let z = size-computed (c .before .before .before .before .before .before .before .args .b) (c .before .before .before .before .before .if1 .taken) in omega arith
 
 add-append-2 : tie.Need-add-append-2
 add-append-2 c = search needs
 
 cast-append-2 : tie.Need-cast-append-2
-cast-append-2 c =
-    let z = size-computed (c .before .before .before .before .before .before .before .before .before .before .before .args .b) (c .before .before .before .before .before .before .before .before .before .if1 .taken) in
-    omega arith
+cast-append-2 c = let z = size-computed (c .before .before .before .before .before .before .before .before .before .before .before .args .b) (c .before .before .before .before .before .before .before .before .before .if1 .taken) in omega arith
 
 append-requires-3 : tie.Need-append-requires-3
-append-requires-3 c κs =
-    let z = size-computed (c .before .before .before .before .before .before .before .before .before .before .before .args .b) (c .before .before .before .before .before .before .before .before .before .if1 .taken) in
-    omega arith
+append-requires-3 c κs = let z = size-computed (c .before .before .before .before .before .before .before .before .before .before .before .args .b) (c .before .before .before .before .before .before .before .before .before .if1 .taken) in omega arith
 
 cast-patch-end : tie.Need-cast-patch-end
-cast-patch-end c =
-    let z = size-computed (c .before .before .before .before .before .before .before .before .before .before .before .before .before .before .before .args .b) (c .before .before .before .before .before .before .before .before .before .before .before .before .before .if1 .taken) in
-    omega arith
+cast-patch-end c = let z = size-computed (c .before .before .before .before .before .before .before .before .before .before .before .before .before .before .before .args .b) (c .before .before .before .before .before .before .before .before .before .before .before .before .before .if1 .taken) in omega arith
 
 patch-end-requires : tie.Need-patch-end-requires
 patch-end-requires c κs = search needs
@@ -47,39 +37,22 @@ same-length : tie.Need-same-length
 same-length c = search needs
 
 returns : tie.Need-returns
-returns c =
-    named (access-computed _ _ (c .before .before .before .before .before .before .before .before .before .before .before .before .before .before .before .before .if1 .taken))
-    (nest (c .before .before .before .before .before .before .before .before .before .before .before .before .before .before .append .ensures) (beside (leaf (c .before .before .before .before .before .before .before .before .before .before .append2 .ensures)) (leaf (c .before .before .before .before .before .before .append3 .ensures))) (c .before .before .patch-end .ensures))
+returns c = named (access-computed _ _ (c .before .before .before .before .before .before .before .before .before .before .before .before .before .before .before .before .if1 .taken)) (nest (c .before .before .before .before .before .before .before .before .before .before .before .before .before .before .append .ensures) (beside (leaf (c .before .before .before .before .before .before .before .before .before .before .append2 .ensures)) (leaf (c .before .before .before .before .before .before .append3 .ensures))) (c .before .before .patch-end .ensures))
 
-append-requires-4 : tie.Need-append-requires-4
-append-requires-4 c κs = search needs
+add-append-nested : tie.Need-add-append-nested
+add-append-nested c = search needs
 
-add-append-3 : tie.Need-add-append-3
-add-append-3 c = search needs
+cast-append-nested : tie.Need-cast-append-nested
+cast-append-nested c = let z = size-member (c .before .before .before .args .b) (c .before .if1 .left) in omega arith
 
-cast-append-3 : tie.Need-cast-append-3
-cast-append-3 c =
-    let z = size-member (c .before .before .before .before .before .before .before .args .b) (c .before .before .before .before .before .if1 .left) in
-    omega arith
-
-append-requires-5 : tie.Need-append-requires-5
-append-requires-5 c κs =
-    let z = size-member (c .before .before .before .before .before .before .before .args .b) (c .before .before .before .before .before .if1 .left) in
-    omega arith
-
-cast-patch-end-2 : tie.Need-cast-patch-end-2
-cast-patch-end-2 c =
-    let z = size-member (c .before .before .before .before .before .before .before .before .before .before .before .args .b) (c .before .before .before .before .before .before .before .before .before .if1 .left) in
-    omega arith
-
-patch-end-requires-2 : tie.Need-patch-end-requires-2
-patch-end-requires-2 c κs = search needs
+append-nested-requires : tie.Need-append-nested-requires
+append-nested-requires c κs = search needs
 
 same-length-2 : tie.Need-same-length-2
 same-length-2 c = search needs
 
 returns-2 : tie.Need-returns-2
-returns-2 c = named (access-member _ _ (c .before .before .before .before .before .before .before .before .before .before .before .before .if1 .left)) (nest (c .before .before .before .before .before .before .before .before .before .before .append4 .ensures) (leaf (c .before .before .before .before .before .before .append5 .ensures)) (c .before .before .patch-end2 .ensures))
+returns-2 c = named (access-member _ _ (c .before .before .before .before .if1 .left)) (c .before .before .append-nested .ensures)
 
 pub access-row-spec : {M : Type 1} → statement M
 access-row-spec =
@@ -96,11 +69,8 @@ access-row-spec =
     patch-end-requires
     same-length
     returns
-    append-requires-4
-    add-append-3
-    cast-append-3
-    append-requires-5
-    cast-patch-end-2
-    patch-end-requires-2
+    add-append-nested
+    cast-append-nested
+    append-nested-requires
     same-length-2
     returns-2)

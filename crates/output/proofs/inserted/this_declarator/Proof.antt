@@ -1,6 +1,6 @@
 -- `output::inserted::this_declarator` meets its contract. Assumes nothing.
 use native.Mathlib.Omega.{arith}
-use Rattle.output.proofs.Writing.{nothing, leaf, nest, named}
+use Rattle.output.proofs.Writing.{nothing, leaf, named}
 use Rattle.output.proofs.Shapes.{this-none, this-late, this-here, size-late, size-here}
 use borrow.Author.Needs.{needs}
 use Rattle.output.proofs.inserted.this_declarator.Statement.{statement}
@@ -13,9 +13,7 @@ add-append : tie.Need-add-append
 add-append c = search needs
 
 cast-append : tie.Need-cast-append
-cast-append c =
-    let z = size-late (c .before .before .if1 .left) (c .before .if2 .taken) in
-    omega arith
+cast-append c = let z = size-late (c .before .before .if1 .left) (c .before .if2 .taken) in omega arith
 
 append-requires : tie.Need-append-requires
 append-requires c κs = search needs
@@ -26,35 +24,20 @@ same-length c = search needs
 returns-2 : tie.Need-returns-2
 returns-2 c = named (this-late (c .before .before .before .before .before .if1 .left) (c .before .before .before .before .if2 .taken)) (leaf (c .before .before .append .ensures))
 
-append-requires-2 : tie.Need-append-requires-2
-append-requires-2 c κs = search needs
+add-append-nested : tie.Need-add-append-nested
+add-append-nested c = search needs
 
-add-append-2 : tie.Need-add-append-2
-add-append-2 c = search needs
+cast-append-nested : tie.Need-cast-append-nested
+cast-append-nested c = let z = size-here (c .before .before .if1 .left) (c .before .if2 .left) in omega arith
 
-cast-append-2 : tie.Need-cast-append-2
-cast-append-2 c =
-    let z = size-here (c .before .before .before .before .before .before .if1 .left) (c .before .before .before .before .before .if2 .left) in
-    omega arith
-
-append-requires-3 : tie.Need-append-requires-3
-append-requires-3 c κs =
-    let z = size-here (c .before .before .before .before .before .before .if1 .left) (c .before .before .before .before .before .if2 .left) in
-    omega arith
-
-cast-patch-end : tie.Need-cast-patch-end
-cast-patch-end c =
-    let z = size-here (c .before .before .before .before .before .before .before .before .before .before .if1 .left) (c .before .before .before .before .before .before .before .before .before .if2 .left) in
-    omega arith
-
-patch-end-requires : tie.Need-patch-end-requires
-patch-end-requires c κs = search needs
+append-nested-requires : tie.Need-append-nested-requires
+append-nested-requires c κs = search needs
 
 same-length-2 : tie.Need-same-length-2
 same-length-2 c = search needs
 
 returns-3 : tie.Need-returns-3
-returns-3 c = named (this-here (c .before .before .before .before .before .before .before .before .before .before .before .before .before .if1 .left) (c .before .before .before .before .before .before .before .before .before .before .before .before .if2 .left)) (nest (c .before .before .before .before .before .before .before .before .before .before .append2 .ensures) (leaf (c .before .before .before .before .before .before .append3 .ensures)) (c .before .before .patch-end .ensures))
+returns-3 c = named (this-here (c .before .before .before .before .before .if1 .left) (c .before .before .before .before .if2 .left)) (c .before .before .append-nested .ensures)
 
 pub this-declarator-spec : {M : Type 1} → statement M
 this-declarator-spec =
@@ -66,11 +49,8 @@ this-declarator-spec =
     append-requires
     same-length
     returns-2
-    append-requires-2
-    add-append-2
-    cast-append-2
-    append-requires-3
-    cast-patch-end
-    patch-end-requires
+    add-append-nested
+    cast-append-nested
+    append-nested-requires
     same-length-2
     returns-3)

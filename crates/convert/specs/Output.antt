@@ -1,0 +1,37 @@
+-- What the program prints for each standard input. Assumes nothing.
+use mathlib.Core.Path.{_≡_}
+use mathlib.Core.List.{List, []}
+use Prim.Native.Nat.{ℕ, _≤_}
+use lib.ListN.{length, take}
+use Rattle.steps.specs.Mode.{Switches}
+use Rattle.steps.specs.Outcome.{Outcome, Room, outcome}
+use Rattle.output.specs.Bytes.{bytesOf}
+use Rattle.converter.specs.Converting.{numberIn, placeIn, rowWords, recordWords}
+use Rattle.sheet.specs.Print.{printed}
+use Rattle.sheet.specs.Parse.{Read, Read.sheet, Read.faulty, joined, pairsFrom, sheetOf}
+
+-- "The convert program prints, with room for 2,048 rows and 256 bindings"
+abbrev pub room : Room
+room = record { rows = 2048; bindings = 256 }
+
+-- a conversion's answer: a refusal has no rows and no records
+abbrev pub answer : Outcome → List ℕ
+answer o = printed (numberIn o) (placeIn o) (rowWords o) (recordWords o)
+
+-- "rows 0 or over 16,384"; "depth over 128"
+abbrev pub outcomeFor : Switches → (rows names text : List ℕ) → Outcome
+outcomeFor w rows names text = outcome 16384 128 w rows names text room
+
+-- 12, "program only, tested first", or what becomes of the sheet
+abbrev pub answerTo : Read → List ℕ
+answerTo (faulty line) = printed 12 line [] []
+answerTo (sheet w names rows) = answer (outcomeFor w (bytesOf rows) (bytesOf (pairsFrom 0 names)) (joined names))
+
+-- the output for an input
+abbrev pub outputFor : List ℕ → List ℕ
+outputFor input = answerTo (sheetOf input)
+
+-- the first r bytes are the whole text
+pub record Shows (text : List ℕ) (r : ℕ) (out : List ℕ) : Type 0 where
+  pub shown : take r out ≡ text
+  pub whole : r ≤ length out

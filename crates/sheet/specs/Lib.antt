@@ -1,0 +1,5 @@
+pub mod Headers
+pub mod Print
+pub mod Fields
+pub mod Parse
+pub mod Sheet

@@ -1,0 +1,266 @@
+//! One call of each side, compared in every number and every byte lent.
+
+use thawcopper::{raw, Switches};
+use thawcopper_reference as reference;
+
+/// Bytes of a table, and the switches.
+#[derive(Clone)]
+pub struct Table {
+    pub rows: Vec<[u32; 4]>,
+    /// Bytes behind the rows.
+    pub more_rows: usize,
+    pub names: Vec<[u32; 2]>,
+    /// Bytes behind the names.
+    pub more_names: usize,
+    pub text: Vec<u8>,
+}
+
+pub fn bytes<'a, const N: usize>(words: impl IntoIterator<Item = &'a [u32; N]>, more: usize) -> Vec<u8> {
+    let mut list: Vec<u8> = words.into_iter().flat_map(|w| w.iter()).flat_map(|w| w.to_le_bytes()).collect();
+    list.resize(list.len() + more, 0);
+    list
+}
+
+pub const EIGHT: [Switches; 8] = {
+    let mut list = [Switches { arrow: false, async_to_generator: false, async_generator_functions: false }; 8];
+    let mut i = 0;
+    while i < 8 {
+        list[i].arrow = i & 4 != 0;
+        list[i].async_to_generator = i & 2 != 0;
+        list[i].async_generator_functions = i & 1 != 0;
+        i += 1;
+    }
+    list
+};
+
+pub fn of_reference(s: Switches) -> reference::Switches {
+    reference::Switches {
+        arrow: s.arrow,
+        async_to_generator: s.async_to_generator,
+        async_generator_functions: s.async_generator_functions,
+    }
+}
+
+/// A difference, in words.
+pub type Difference = String;
+
+/// How many bytes on each side of what is lent are looked at too. It is odd, so that what is lent is not aligned.
+const GUARD: usize = 33;
+
+/// Memory to lend, filled with a pattern before each call.
+pub struct Lent {
+    pattern: Vec<u8>,
+    buffer: Vec<u8>,
+    length: usize,
+}
+
+impl Lent {
+    pub fn new() -> Lent {
+        Lent { pattern: Vec::new(), buffer: Vec::new(), length: 0 }
+    }
+
+    fn lend(&mut self, length: usize) -> &mut [u8] {
+        let whole = length + 2 * GUARD;
+        while self.pattern.len() < whole {
+            // No word of it is a likely one, and no two rows of it are alike.
+            let n = self.pattern.len();
+            self.pattern.push((n * 37 + n / 256 * 11 + 165) as u8 | 0x80);
+        }
+        if self.buffer.len() < whole {
+            self.buffer.resize(whole, 0);
+        }
+        self.length = length;
+        self.buffer[..whole].copy_from_slice(&self.pattern[..whole]);
+        &mut self.buffer[GUARD..GUARD + length]
+    }
+
+    /// Whether the front is this, and all else the pattern.
+    fn holds(&self, front: &[u8]) -> bool {
+        let whole = self.length + 2 * GUARD;
+        let behind = GUARD + front.len();
+        self.buffer[..GUARD] == self.pattern[..GUARD]
+            && &self.buffer[GUARD..behind] == front
+            && self.buffer[behind..whole] == self.pattern[behind..whole]
+    }
+}
+
+/// Compares calls, and counts them.
+pub struct Comparer {
+    rows: Lent,
+    bindings: Lent,
+    pub calls: u64,
+    /// By refusal number; 0 for acceptances.
+    pub answers: [u64; 12],
+    /// Acceptances with bindings.
+    pub with_bindings: u64,
+}
+
+/// How much is lent, in bytes.
+#[derive(Clone, Copy, Debug)]
+pub struct Room {
+    pub rows: usize,
+    pub bindings: usize,
+}
+
+/// Which rooms are tried.
+#[derive(Clone, Copy, PartialEq)]
+pub enum Rooms {
+    /// Exact; and one byte short, rows and bindings by turns.
+    Some,
+    /// Exact, short by one byte of each, with bytes to spare that are no whole row, none, and plenty.
+    All,
+}
+
+/// A table's bytes as they are handed over, and a copy.
+pub struct Input {
+    pub rows: Vec<u8>,
+    pub names: Vec<u8>,
+    pub text: Vec<u8>,
+    copy: (Vec<u8>, Vec<u8>, Vec<u8>),
+}
+
+impl Input {
+    pub fn of(table: &Table) -> Input {
+        let rows = bytes(&table.rows, table.more_rows);
+        let names = bytes(&table.names, table.more_names);
+        let text = table.text.clone();
+        let copy = (rows.clone(), names.clone(), text.clone());
+        Input { rows, names, text, copy }
+    }
+
+    fn untouched(&self) -> bool {
+        self.rows == self.copy.0 && self.names == self.copy.1 && self.text == self.copy.2
+    }
+}
+
+impl Comparer {
+    pub fn new() -> Comparer {
+        Comparer { rows: Lent::new(), bindings: Lent::new(), calls: 0, answers: [0; 12], with_bindings: 0 }
+    }
+
+    /// One call on each side, with that room.
+    pub fn one(&mut self, switches: Switches, input: &Input, room: Room) -> Result<(), Difference> {
+        let wanted = reference::convert(
+            of_reference(switches),
+            &input.rows,
+            &input.names,
+            &input.text,
+            room.rows,
+            room.bindings,
+        );
+        self.against(switches, input, room, &wanted)
+    }
+
+    fn against(
+        &mut self,
+        switches: Switches,
+        input: &Input,
+        room: Room,
+        wanted: &Result<reference::Result01, reference::Refused>,
+    ) -> Result<(), Difference> {
+        let (numbers, rows, bindings) = match wanted {
+            Ok(r) => ([0, 0, r.rows.len() as u32, r.bindings.len() as u32], bytes(&r.rows, 0), bytes(&r.bindings, 0)),
+            Err(r) => ([r.number, r.place, 0, 0], Vec::new(), Vec::new()),
+        };
+        let out_rows = self.rows.lend(room.rows);
+        let out_bindings = self.bindings.lend(room.bindings);
+        let answer = raw::convert(&switches, &input.rows, &input.names, &input.text, out_rows, out_bindings);
+        self.calls += 1;
+        self.answers[numbers[0] as usize] += 1;
+        self.with_bindings += u64::from(numbers[3] != 0);
+        let got = [answer.refusal, answer.place, answer.rows, answer.bindings];
+        let told = |what: String| Err(format!("{:?} {:?}: {}", switches, room, what));
+        if got != numbers {
+            return told(format!("the reference answers {:?}, the library {:?}", numbers, got));
+        }
+        if !self.rows.holds(&rows) {
+            return told(format!("answer {:?}, but the rows lent differ", numbers));
+        }
+        if !self.bindings.holds(&bindings) {
+            return told(format!("answer {:?}, but the bindings lent differ", numbers));
+        }
+        if !input.untouched() {
+            return told("the table was written to".to_string());
+        }
+        Ok(())
+    }
+
+    /// A table in all eight settings.
+    pub fn table(&mut self, table: &Table, rooms: Rooms) -> Result<(), Difference> {
+        let input = Input::of(table);
+        for (turn, switches) in EIGHT.iter().enumerate() {
+            self.setting(*switches, &input, rooms, turn)?;
+        }
+        Ok(())
+    }
+
+    /// A table in one setting: what the reference answers where there is room for all, then less and more room.
+    pub fn setting(&mut self, switches: Switches, input: &Input, rooms: Rooms, turn: usize) -> Result<(), Difference> {
+        let whole = usize::MAX;
+        let wanted = reference::convert(of_reference(switches), &input.rows, &input.names, &input.text, whole, whole);
+        let plenty = Room { rows: input.rows.len() * 2 + 64, bindings: input.rows.len() / 4 + 64 };
+        let exact = match &wanted {
+            Ok(r) => Room { rows: r.rows.len() * 16, bindings: r.bindings.len() * 12 },
+            Err(_) => {
+                self.against(switches, input, Room { rows: 0, bindings: 0 }, &wanted)?;
+                if rooms == Rooms::All {
+                    self.against(switches, input, plenty, &wanted)?;
+                }
+                return Ok(());
+            }
+        };
+        self.against(switches, input, exact, &wanted)?;
+        let short_rows = Room { rows: exact.rows - 1, ..exact };
+        let short_bindings = Room { bindings: exact.bindings.saturating_sub(1), ..exact };
+        if rooms == Rooms::Some {
+            let short = if turn % 2 == 0 || exact.bindings == 0 { short_rows } else { short_bindings };
+            return self.one(switches, input, short);
+        }
+        let spare = Room { rows: exact.rows + 15, bindings: exact.bindings + 11 };
+        let more = Room { rows: exact.rows + 16, bindings: exact.bindings + 12 };
+        let none = Room { rows: 0, bindings: 0 };
+        let fewer = Room { rows: exact.rows.saturating_sub(160), bindings: exact.bindings + 120 };
+        for room in [short_rows, short_bindings, spare, more, none, fewer, plenty] {
+            self.one(switches, input, room)?;
+        }
+        Ok(())
+    }
+}
+
+/// One call of base text on each side.
+pub struct BaseTexts {
+    out: Lent,
+    pub calls: u64,
+    pub answers: [u64; 12],
+}
+
+impl BaseTexts {
+    pub fn new() -> BaseTexts {
+        BaseTexts { out: Lent::new(), calls: 0, answers: [0; 12] }
+    }
+
+    pub fn one(
+        &mut self,
+        number: u32,
+        bindings: &[u8],
+        names: &[u8],
+        text: &[u8],
+        room: usize,
+    ) -> Result<usize, Difference> {
+        let (numbers, written) = match reference::base_text(number, bindings, names, text, room) {
+            Ok(written) => ([0, 0, written.len() as u32], written),
+            Err(r) => ([r.number, r.place, 0], Vec::new()),
+        };
+        let answer = raw::base_text(number, bindings, names, text, self.out.lend(room));
+        self.calls += 1;
+        self.answers[numbers[0] as usize] += 1;
+        let got = [answer.refusal, answer.place, answer.bytes];
+        if got != numbers {
+            return Err(format!("base text: the reference answers {:?}, the library {:?}", numbers, got));
+        }
+        if !self.out.holds(&written) {
+            return Err(format!("base text: answer {:?}, but the bytes lent differ", numbers));
+        }
+        Ok(written.len())
+    }
+}

@@ -1,0 +1,82 @@
+/* Thawcopper's C entries, in libthawcopper.a (`rt staticlib thawcopper`).
+ *
+ * Words are unsigned, 32 bits, little-endian. A row is four words (kind, attr, name, end), a name two (start, length),
+ * a binding three (use, property, frame). docs/FORMAT.md has what they mean and what is refused.
+ *
+ * Every input is answered: there is nothing to free and no state, and calls may be made from several threads at once. A
+ * refusal leaves what was lent as it was. A length is in bytes; a pointer whose length is 0 is not read, but must not
+ * be null. The memory that is written must not overlap any other that is handed over.
+ *
+ * thawcopper_convert needs up to 884 KiB of stack, 648 of them for any table: give its thread 1 MiB or more.
+ */
+#ifndef THAWCOPPER_H
+#define THAWCOPPER_H
+
+#include <stddef.h>
+#include <stdint.h>
+
+#ifdef __cplusplus
+extern "C" {
+#endif
+
+/* `refusal` and `place`. Place is the row's number from 0, the name's or the binding's from 1, or 0. */
+enum {
+    THAWCOPPER_ACCEPTED = 0,
+    THAWCOPPER_SIZES = 1,           /* place 0: a piece is too long, empty or not whole */
+    THAWCOPPER_BAD_ROW = 2,         /* the first row that breaks the form */
+    THAWCOPPER_TOO_DEEP = 3,        /* the first row deeper than 128 */
+    THAWCOPPER_BAD_NAME = 4,        /* the first name outside the text, of no or over 255 bytes, or not UTF-8 */
+    THAWCOPPER_MADE_ROW = 5,        /* the first row that only a result may have */
+    THAWCOPPER_SUPER = 6,           /* the first super that may not stand where it is */
+    THAWCOPPER_FIELD = 7,           /* the first class field whose value cannot be converted */
+    THAWCOPPER_ARGUMENTS = 8,       /* the first binding that is called arguments */
+    THAWCOPPER_NO_ROOM = 9,         /* place 0: what is lent is too short for the result */
+    THAWCOPPER_UNKNOWN_LETTER = 10, /* base text: the binding whose property starts with another script's letter */
+    THAWCOPPER_BAD_BINDING = 11     /* base text: no such binding, or no such record */
+};
+
+/* A record's use. */
+enum {
+    THAWCOPPER_USE_THIS = 1,
+    THAWCOPPER_USE_ARGUMENTS = 2,
+    THAWCOPPER_USE_GET = 3,
+    THAWCOPPER_USE_SET = 4,
+    THAWCOPPER_USE_PROP = 5,
+    THAWCOPPER_USE_VALUE = 6
+};
+
+typedef struct {
+    uint32_t refusal;
+    uint32_t place;
+    uint32_t rows;     /* written to the front of out_rows, 16 bytes each */
+    uint32_t bindings; /* written to the front of out_bindings, 12 bytes each */
+} thawcopper_answer;
+
+typedef struct {
+    uint32_t refusal;
+    uint32_t place;
+    uint32_t bytes; /* written to the front of out */
+} thawcopper_spelled;
+
+/* Converts a table. A switch is on where it is not 0. */
+thawcopper_answer thawcopper_convert(
+    uint32_t arrow, uint32_t async_to_generator, uint32_t async_generator_functions,
+    const uint8_t *rows, size_t rows_len,
+    const uint8_t *names, size_t names_len,
+    const uint8_t *text, size_t text_len,
+    uint8_t *out_rows, size_t out_rows_len,
+    uint8_t *out_bindings, size_t out_bindings_len);
+
+/* The text that binding `number`, from 1, is called by, before it is made unique. */
+thawcopper_spelled thawcopper_base_text(
+    uint32_t number,
+    const uint8_t *bindings, size_t bindings_len,
+    const uint8_t *names, size_t names_len,
+    const uint8_t *text, size_t text_len,
+    uint8_t *out, size_t out_len);
+
+#ifdef __cplusplus
+}
+#endif
+
+#endif

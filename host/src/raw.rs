@@ -1,0 +1,100 @@
+//! The two C entries with slices for pointers and lengths: bytes in, numbers out, nothing read into them. They are safe
+//! to call with any bytes, because every input is answered.
+
+use crate::Switches;
+
+/// What `thawcopper_convert` returns: document 01's number and place, and the counts.
+#[repr(C)]
+#[derive(Clone, Copy, Debug, PartialEq, Eq)]
+pub struct Answer {
+    pub refusal: u32,
+    pub place: u32,
+    pub rows: u32,
+    pub bindings: u32,
+}
+
+/// What `thawcopper_base_text` returns.
+#[repr(C)]
+#[derive(Clone, Copy, Debug, PartialEq, Eq)]
+pub struct Spelled {
+    pub refusal: u32,
+    pub place: u32,
+    pub bytes: u32,
+}
+
+extern "C" {
+    fn thawcopper_convert(
+        arrow: u32,
+        async_to_generator: u32,
+        async_generator_functions: u32,
+        rows: *const u8,
+        rows_len: usize,
+        names: *const u8,
+        names_len: usize,
+        text: *const u8,
+        text_len: usize,
+        out_rows: *mut u8,
+        out_rows_len: usize,
+        out_bindings: *mut u8,
+        out_bindings_len: usize,
+    ) -> Answer;
+
+    fn thawcopper_base_text(
+        number: u32,
+        bindings: *const u8,
+        bindings_len: usize,
+        names: *const u8,
+        names_len: usize,
+        text: *const u8,
+        text_len: usize,
+        out: *mut u8,
+        out_len: usize,
+    ) -> Spelled;
+}
+
+/// `thawcopper_convert`.
+pub fn convert(
+    switches: &Switches,
+    rows: &[u8],
+    names: &[u8],
+    text: &[u8],
+    out_rows: &mut [u8],
+    out_bindings: &mut [u8],
+) -> Answer {
+    // SAFETY: each pointer and length is that of a slice that is borrowed for the call, the written ones for writing.
+    unsafe {
+        thawcopper_convert(
+            switches.arrow.into(),
+            switches.async_to_generator.into(),
+            switches.async_generator_functions.into(),
+            rows.as_ptr(),
+            rows.len(),
+            names.as_ptr(),
+            names.len(),
+            text.as_ptr(),
+            text.len(),
+            out_rows.as_mut_ptr(),
+            out_rows.len(),
+            out_bindings.as_mut_ptr(),
+            out_bindings.len(),
+        )
+    }
+}
+
+/// `thawcopper_base_text`.
+pub fn base_text(number: u32, bindings: &[u8], names: &[u8], text: &[u8], out: &mut [u8]) -> Spelled {
+    // SAFETY: as above.
+    unsafe {
+        thawcopper_base_text(
+            number,
+            bindings.as_ptr(),
+            bindings.len(),
+            names.as_ptr(),
+            names.len(),
+            text.as_ptr(),
+            text.len(),
+            out.as_mut_ptr(),
+            out.len(),
+        )
+    }
+}
