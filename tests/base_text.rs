@@ -1,34 +1,13 @@
 //! Base text's C entry, linked as a host links it, against the Rust library's `char::to_uppercase` and the crate's short
 //! way for ASCII, for every first character that there is.
 //!
-//!   rt staticlib thawcopper
-//!   rustc -o base_text tests/base_text.rs -L target/staticlib -l static=thawcopper && ./base_text
+//! `.ci/run` says how it is built, with the package of host/.
 //!
 //! Prints how many characters were tried; a difference ends it with a panic.
 
 use std::collections::BTreeMap;
 
-/// What `thawcopper_base_text` returns.
-#[repr(C)]
-struct Spelled {
-    refusal: u32,
-    place: u32,
-    bytes: u32,
-}
-
-extern "C" {
-    fn thawcopper_base_text(
-        number: u32,
-        bindings: *const u8,
-        bindings_len: usize,
-        names: *const u8,
-        names_len: usize,
-        text: *const u8,
-        text_len: usize,
-        out: *mut u8,
-        out_len: usize,
-    ) -> Spelled;
-}
+use thawcopper::raw;
 
 fn words(list: &[u32]) -> Vec<u8> {
     list.iter().flat_map(|w| w.to_le_bytes()).collect()
@@ -39,19 +18,7 @@ fn get_accessor(property: &str) -> Result<String, (u32, u32)> {
     let bindings = words(&[3, 1, 0]);
     let names = words(&[0, property.len() as u32]);
     let mut out = [0u8; 64];
-    let answer = unsafe {
-        thawcopper_base_text(
-            1,
-            bindings.as_ptr(),
-            bindings.len(),
-            names.as_ptr(),
-            names.len(),
-            property.as_ptr(),
-            property.len(),
-            out.as_mut_ptr(),
-            out.len(),
-        )
-    };
+    let answer = raw::base_text(1, &bindings, &names, property.as_bytes(), &mut out);
     if answer.refusal != 0 {
         assert_eq!(answer.bytes, 0);
         assert_eq!(out, [0; 64]);

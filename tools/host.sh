@@ -8,7 +8,7 @@
 #   host.sh bench [cleared]        the library beside the reference and beside a plain copy
 #   host.sh bench profile SHAPE MODE    the library alone, for a profiler
 #
-# The archive is built with rt where it is missing. Cargo is used where it is there, without a registry; else rustc and
+# The archive is built with rt where it is missing, and for a benchmark. Cargo is used where it is there, without a registry; else rustc and
 # rustdoc alone. HOST_NO_CARGO=1 takes the second way. A failure ends it with a status that is not 0.
 set -eu
 cd "$(dirname "$0")/.."
@@ -17,7 +17,7 @@ archive=target/staticlib
 out=target/host
 sample=host/sample
 
-if [[ ! -e $archive/libthawcopper.a ]]; then
+if [[ ! -e $archive/libthawcopper.a || ${1:-} == bench ]]; then
   rt staticlib thawcopper >/dev/null
 fi
 mkdir -p "$out"

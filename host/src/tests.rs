@@ -118,26 +118,3 @@ fn kinds_have_their_numbers() {
     }
     assert!(Kind::ALL.windows(2).all(|pair| (pair[0] as u32) < pair[1] as u32));
 }
-
-#[test]
-fn the_deepest_tables_fit_a_threads_stack() {
-    let chain = |wrap: fn(Node) -> Node| {
-        let inner = (0..126).fold(Node::this(), |inner, _| wrap(inner));
-        Table::from_tree(&Node::program([Node::statement(inner)]))
-    };
-    let tables = [
-        chain(|inner| Node::arrow([], inner)),
-        chain(|inner| Node::call(inner, [])),
-        chain(|inner| Node::computed(Node::this(), inner)),
-        chain(|inner| Node::new(Kind::Opaque).child(inner)),
-    ];
-    let converting = move || {
-        for table in &tables {
-            for switches in [Switches::ARROWS, Switches::ASYNC, Switches::OFF] {
-                assert!(convert(&switches, table).is_ok());
-            }
-        }
-    };
-    // What the Rust library gives a thread.
-    std::thread::Builder::new().stack_size(2 << 20).spawn(converting).unwrap().join().unwrap();
-}
