@@ -5,7 +5,7 @@
 #   host.sh long SEED MINUTES      the comparison of random tables, from another seed
 #   host.sh more                   the comparison of all tables, a size up
 #   host.sh sample                 writes host/sample anew, from the reference's answers
-#   host.sh bench [cleared]        the library beside the reference and beside a plain copy
+#   host.sh bench [cleared] [ample]    the library beside the reference and beside a plain copy
 #   host.sh bench profile SHAPE MODE    the library alone, for a profiler
 #
 # The archive is built with rt where it is missing, and for a benchmark. Cargo is used where it is there, without a registry; else rustc and
@@ -82,7 +82,7 @@ case ${1:-} in
     ;;
   '') ;;
   *)
-    echo "usage: host.sh [long SEED MINUTES | more | sample | bench [cleared] | bench profile SHAPE MODE]" >&2
+    echo "usage: host.sh [long SEED MINUTES | more | sample | bench [cleared] [ample] | bench profile SHAPE MODE]" >&2
     exit 2
     ;;
 esac

@@ -95,8 +95,9 @@ pub struct Counts {
 /// ```
 pub fn convert(switches: &Switches, table: &Table) -> Result<Converted, Refusal> {
     let given = table.row_bytes().len() / 16;
-    // Most scripts grow by less than half. No more than 10 rows are made for one, so this ends.
-    let mut room_rows = (given + given / 2 + 16) * 16;
+    // With 8 rows for each row of the table and 11 for each binding the library need not count first; most scripts have
+    // fewer bindings than a quarter of their rows. No more than 19 rows are made for one, so this ends.
+    let mut room_rows = (11 * given + 16) * 16;
     let mut room_bindings = (given / 4 + 16) * 12;
     loop {
         let mut rows = vec![0; room_rows];

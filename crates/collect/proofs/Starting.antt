@@ -8,26 +8,25 @@ use Rattle.rows.specs.Forest.{table}
 use Rattle.steps.specs.Mode.{Switches}
 use Rattle.steps.specs.Naming.{Names}
 use Rattle.steps.specs.Slots.{free}
-use Rattle.steps.specs.Acts.{Ctx}
 use Rattle.steps.specs.Bindings.{Binding}
-use Rattle.steps.specs.Context.{spot, start, collectC, madeC}
+use Rattle.steps.specs.Context.{Spot, spot, start, collectC, madeC}
 use Rattle.bindings.specs.Store.{binds, bindsFrom}
 use Rattle.bindings.specs.Post.{Kept}
 use Rattle.plan.specs.Frames.{FramesBelow}
 use Rattle.collect.specs.Collecting.{Collects, Starts}
 
-module _ (N : Names) (w : Switches) (rows : List ℕ) {M : List ℕ} {cap : ℕ} (P : Starts (rowsIn rows) M cap (madeC N w (table rows))) {c : Ctx} (p : c ≡ start) where
+module _ (N : Names) (w : Switches) (rows : List ℕ) {M : List ℕ} {cap : ℕ} (P : Starts (rowsIn rows) M cap (madeC N w (table rows))) {s : Spot} (p : s ≡ spot start free) where
   abbrev walk : List Binding
-  walk = collectC N w (spot c free) (spot c free) 0 (table rows) (binds M cap 0)
+  walk = collectC N w s s 0 (table rows) (binds M cap 0)
 
   walk-is : walk ≡ madeC N w (table rows)
   unfolding madeC bindsFrom
-  walk-is = ap (λ (z : Ctx). collectC N w (spot z free) (spot z free) 0 (table rows) []) p
+  walk-is = ap (λ (z : Spot). collectC N w z z 0 (table rows) []) p
 
-  frames : FramesBelow cap c
-  frames = let h = P .store .room in subst (FramesBelow cap) (sym p) (record { this = h; super = h; arguments = h })
+  frames : FramesBelow cap (s .ctx)
+  frames = let h = P .store .room in subst (λ (z : Spot). FramesBelow cap (z .ctx)) (sym p) (record { this = h; super = h; arguments = h })
 
-  pub program-collects : Collects (rowsIn rows) M cap 0 (spot c free) (spot c free) walk
+  pub program-collects : Collects (rowsIn rows) M cap 0 s s walk
   program-collects = record { store = P .store; cap-low = P .cap-low; rows-low = P .rows-low; one-low = frames; more-low = frames; room = subst (λ (l : List Binding). length l < cap) (sym walk-is) (P .room) }
 
   pub program-kept : {M′ : List ℕ} {count : ℕ} → Kept M′ cap walk count → Kept M′ cap (madeC N w (table rows)) count

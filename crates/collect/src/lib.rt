@@ -1,16 +1,18 @@
 // The first walk: the bindings, "captures and accessors when first met on the walk, prop and value as
 // the frame closes".
-use acts::act::Spot;
 use acts::context::Context;
-use acts::context::at_program;
 use acts::switches::Switches;
+use below::attr_at;
 use below::end_at;
 use below::kind_at;
 use bindings::frame::Frame;
 use passes::Becomes;
 use passes::closes;
-use passes::slots::FREE;
-use plan::row_act;
+use plan::act_at;
+use plan::late::is_late;
+use plan::place::Place;
+use plan::place::program;
+use plan::stays::stays;
 ghost use mathlib.Core.Path.{_≡_};
 ghost use mathlib.Core.Bool.{Bool};
 ghost use Prim.Native.Nat.{ℕ};
@@ -23,10 +25,10 @@ ghost use Rattle.steps.specs.Context.{collectC, madeC};
 ghost use Rattle.bindings.specs.Store.{binds};
 ghost use Rattle.bindings.specs.Post.{Kept, Asked};
 ghost use Rattle.acts.specs.View.{switchesOf, contextOf};
-ghost use Rattle.acts.specs.Deciding.{spotOf};
 ghost use Rattle.passes.specs.View.{opOf};
+ghost use Rattle.plan.specs.Placing.{placeOf};
 ghost use Rattle.plan.specs.Ranged.{Ranged};
-ghost use Rattle.collect.specs.Collecting.{Meets, Finishes, Collects, Starts, isCalled, leaveCapture};
+ghost use Rattle.collect.specs.Collecting.{Meets, Finishes, RowCollects, Collects, Starts, isCalled, leaveCapture, rowC};
 
 // What a row meets before its children.
 fn meet(op: Becomes, made: &mut [u32], cap: usize, count: usize, names: &[u8], text: &[u8]) -> usize
@@ -122,6 +124,68 @@ fn finish(
     kept.count
 }
 
+// The bindings that row i, which ends at `stop`, and its children add to those in the array.
+fn collect_row(
+    rows: &[u8],
+    names: &[u8],
+    text: &[u8],
+    switches: Switches,
+    q: Place,
+    i: usize,
+    stop: usize,
+    made: &mut [u32],
+    cap: usize,
+    count: usize,
+) -> usize
+    requires { ⌜ RowCollects (now rows) (now made) cap count (placeOf q) i stop (rowC (namesOf (now names) (now text)) (switchesOf switches) (placeOf q) (words (now rows)) i (binds (now made) cap count)) ⌝ }
+    requires { ⌜ GivenNames (now names) (now text) ⌝ }
+    ensures { λ r. ⌜ Kept (now (made .exit)) cap (rowC (namesOf (now (names .entry)) (now (text .entry))) (switchesOf switches) (placeOf q) (words (now (rows .entry))) i (binds (now (made .entry)) cap count)) r ⌝ }
+{
+    let from = i + 1;
+    let kind = kind_at(rows, i);
+    if stays(switches, q, kind, attr_at(rows, i)) {
+        if stop <= from {
+            return count;
+        }
+        let along = q.inside();
+        return collect(
+            rows,
+            names,
+            text,
+            switches,
+            along,
+            along,
+            from,
+            stop,
+            made,
+            cap,
+            count,
+        );
+    }
+    let late = is_late(rows, names, text, switches, q, i);
+    let act = act_at(rows, names, text, switches, q, i, late);
+    let op = act.op;
+    let met = meet(op, made, cap, count, names, text);
+    let more = act.more;
+    let inner = collect(
+        rows,
+        names,
+        text,
+        switches,
+        act.one,
+        more,
+        from,
+        stop,
+        made,
+        cap,
+        met,
+    );
+    let closing = closes(q.slot(), kind);
+    let spot = q.spot();
+    let frame = more.this_at();
+    finish(op, spot.context, closing, frame, made, cap, inner)
+}
+
 // The bindings that the rows from `from` to `end` add to those in the array. The first row is at
 // `one`, the later ones are at `more`.
 pub fn collect(
@@ -129,8 +193,8 @@ pub fn collect(
     names: &[u8],
     text: &[u8],
     switches: Switches,
-    one: Spot,
-    more: Spot,
+    one: Place,
+    more: Place,
     from: usize,
     end: usize,
     made: &mut [u32],
@@ -139,41 +203,15 @@ pub fn collect(
 ) -> usize
     requires { ⌜ Ranged (now rows) from end ⌝ }
     requires { ⌜ GivenNames (now names) (now text) ⌝ }
-    requires { ⌜ Collects (rowsIn (now rows)) (now made) cap count (spotOf one) (spotOf more) (collectC (namesOf (now names) (now text)) (switchesOf switches) (spotOf one) (spotOf more) from (rowsAt (words (now rows)) from end) (binds (now made) cap count)) ⌝ }
-    ensures { λ r. ⌜ Kept (now (made .exit)) cap (collectC (namesOf (now (names .entry)) (now (text .entry))) (switchesOf switches) (spotOf one) (spotOf more) from (rowsAt (words (now (rows .entry))) from end) (binds (now (made .entry)) cap count)) r ⌝ }
+    requires { ⌜ Collects (rowsIn (now rows)) (now made) cap count (placeOf one) (placeOf more) (collectC (namesOf (now names) (now text)) (switchesOf switches) (placeOf one) (placeOf more) from (rowsAt (words (now rows)) from end) (binds (now made) cap count)) ⌝ }
+    ensures { λ r. ⌜ Kept (now (made .exit)) cap (collectC (namesOf (now (names .entry)) (now (text .entry))) (switchesOf switches) (placeOf one) (placeOf more) from (rowsAt (words (now (rows .entry))) from end) (binds (now (made .entry)) cap count)) r ⌝ }
 {
     let mut i = from;
     let mut q = one;
     let mut kept = count;
     while i < end {
-        let kind = kind_at(rows, i);
         let stop = end_at(rows, i);
-        let act = row_act(rows, names, text, switches, q, i);
-        let op = act.op;
-        let met = meet(op, made, cap, kept, names, text);
-        let inner = collect(
-            rows,
-            names,
-            text,
-            switches,
-            act.one,
-            act.more,
-            i + 1,
-            stop,
-            made,
-            cap,
-            met,
-        );
-        let closing = closes(q.slot, kind);
-        kept = finish(
-            op,
-            q.context,
-            closing,
-            act.more.context.this_at,
-            made,
-            cap,
-            inner,
-        );
+        kept = collect_row(rows, names, text, switches, q, i, stop, made, cap, kept);
         q = more;
         i = stop;
     }
@@ -194,10 +232,7 @@ pub fn make_bindings(
     requires { ⌜ Starts (rowsIn (now rows)) (now made) cap (madeC (namesOf (now names) (now text)) (switchesOf switches) (table (now rows))) ⌝ }
     ensures { λ r. ⌜ Kept (now (made .exit)) cap (madeC (namesOf (now (names .entry)) (now (text .entry))) (switchesOf switches) (table (now (rows .entry)))) r ⌝ }
 {
-    let start = Spot {
-        context: at_program(),
-        slot: FREE,
-    };
+    let start = program();
     let end = rows.len() / 16;
     collect(
         rows,

@@ -2,8 +2,10 @@
 use mathlib.Core.Path.{_≡_, sym, ap, subst, _∙_}
 use mathlib.Core.Bool.{Bool, true, false, _||_}
 use mathlib.Core.List.{List, []}
-use Prim.Native.Nat.{ℕ, _/_, _≤_, _<_, _^_}
+use Prim.Native.Nat.{ℕ, _+_, _*_, _/_, _≤_, _<_, _^_}
 use native.Mathlib.Omega.{arith}
+use borrow.Author.Tests.{le-leb, leb-true, leb-false}
+use lib.Dec.{leb}
 use lib.ListN.{length}
 use Rattle.rows.specs.Words.{rowsIn}
 use Rattle.rows.specs.Forest.{Rows, size, table}
@@ -29,9 +31,13 @@ use Rattle.output.proofs.Recording.{none-copied}
 use Rattle.bindings.specs.Store.{binds}
 use Rattle.bindings.specs.Post.{Kept}
 use Rattle.bindings.proofs.Arrays.{binds-length}
+use Rattle.acts.specs.View.{switchesOf}
+use Rattle.acts.specs.declared.switches.Switches.{Switches as Lent}
 use Rattle.plan.specs.Ranged.{Ranged}
+use Rattle.emit.specs.Plans.{Holds, emitted}
+use Rattle.emit.specs.declared.Walk.{Walk}
 use Rattle.refusals.specs.Given.{GivenRows}
-use Rattle.converter.specs.Ready.{Ready}
+use Rattle.converter.specs.Ready.{Ready, Collected}
 use Rattle.converter.specs.Converting.{outcomeOf, Answers}
 use Rattle.converter.proofs.Answering.{full-rows, full-bindings, converted-all}
 use Rattle.refusals.proofs.Giving.{sound-rows, sound-names}
@@ -93,56 +99,85 @@ module _ (w : Switches) (rows names text : List ℕ) (A : Accepted 16384 128 w r
         (subst (λ (bs : List Binding). Copied outBindings 0 bs 0 outBindings) (sym no-bindings) (none-copied outBindings 0))
         (omega (arith, result-size, e .next)) (omega arith)
 
-module _ (w : Switches) (rows names text made : List ℕ) (cap : ℕ) (S : Ready w rows names text made cap) where
-  abbrev pub N : Names
+-- a mode that changes rows
+module _ (w : Switches) (rows names text : List ℕ) (on : (enabled w || asyncOnly w) ≡ true) where
+  -- the names of the table, and its result
+  abbrev N : Names
   N = namesOf names text
 
-  abbrev pub R : Result
+  abbrev R : Result
   R = steps N w (table rows)
 
-  pub bindings-are : R .bindings ≡ madeC N w (table rows)
-  bindings-are = ap (λ (r : Result). r .bindings) (steps-on N w (table rows) (S .on))
+  -- the bindings of the result are those of the first walk
+  bindings-are : R .bindings ≡ madeC N w (table rows)
+  bindings-are = ap (λ (r : Result). r .bindings) (steps-on N w (table rows) on)
 
-  pub rows-are : (bs : List Binding) → bs ≡ madeC N w (table rows) → R .rows ≡ emitS N w bs 0 copy (spot start free) (spot start free) 0 (table rows)
-  rows-are bs q = ap (λ (r : Result). r .rows) (steps-on N w (table rows) (S .on)) ∙ ap (λ (cs : List Binding). emitS N w cs 0 copy (spot start free) (spot start free) 0 (table rows)) (sym q)
+  -- and its rows those of the second, over these bindings
+  rows-are : (bs : List Binding) → bs ≡ madeC N w (table rows) → R .rows ≡ emitS N w bs 0 copy (spot start free) (spot start free) 0 (table rows)
+  rows-are bs q = ap (λ (r : Result). r .rows) (steps-on N w (table rows) on) ∙ ap (λ (cs : List Binding). emitS N w cs 0 copy (spot start free) (spot start free) 0 (table rows)) (sym q)
 
-  -- room for all of the bindings
-  pub bindings-few : length (madeC N w (table rows)) < cap
-  bindings-few = omega (arith, result-within 16384 128 w rows names text (S .accepted) .few, ap length bindings-are, S .fits)
+-- room for all of the bindings
+pub bindings-few : (w : Switches) (rows names text made : List ℕ) (cap : ℕ) → Ready w rows names text made cap → length (madeC (namesOf names text) w (table rows)) < cap
+bindings-few w rows names text made cap S =
+    omega (arith, result-within 16384 128 w rows names text (S .accepted) .few, ap length (bindings-are w rows names text (S .on)), S .fits)
 
-  -- no cursor wraps
-  pub rows-few : (bs : List Binding) → bs ≡ madeC N w (table rows) → size (emitS N w bs 0 copy (spot start free) (spot start free) 0 (table rows)) < 2 ^ 32
-  rows-few bs q = subst (λ (t : Rows). size t < 2 ^ 32) (rows-are bs q) (result-small 16384 128 w rows names text (S .accepted))
+-- the answer by a walk over no bytes, which counts
+pub counted-room : (room : ℕ) {f : Rows} {total : ℕ} {after : List ℕ} → Done [] 0 f total after → leb total room ≡ leb (size f) room
+counted-room room {f} {total} d = let q : total ≡ size f = omega (arith, d .next) in rw q
 
-  -- the array M after the first walk, with count bindings, and what the second walk then writes
-  module _ (M : List ℕ) (count : ℕ) (K : Kept M cap (madeC N w (table rows)) count) where
-    abbrev pub made-rows : Rows
-    made-rows = emitS N w (binds M cap count) 0 copy (spot start free) (spot start free) 0 (table rows)
+-- what the first walk leaves to the second
+pub collected : {s : Lent} {rows names text made M : List ℕ} {cap count : ℕ} → Ready (switchesOf s) rows names text made cap
+    → Kept M cap (madeC (namesOf names text) (switchesOf s) (table rows)) count → Collected rows names text M (record { switches = s; cap = cap; count = count })
+collected S K = record { accepted = S .accepted; on = S .on; kept = K; low = S .low; fits = S .fits }
 
-    pub room-known : size made-rows < 2 ^ 32
-    room-known = rows-few (binds M cap count) (K .list)
+-- the array M with the bindings of the first walk, and what the second walk then writes
+module _ (rows names text M : List ℕ) (v : Walk) (C : Collected rows names text M v) where
+  -- the switches of the walk
+  abbrev w : Switches
+  w = switchesOf (v .switches)
 
-    pub result-rows : {before after : List ℕ} {r : ℕ} → Done before 0 made-rows r after → Done before 0 (R .rows) r after
-    result-rows {before} {after} {r} d = named (rows-are (binds M cap count) (K .list)) d
+  -- the rows that it writes
+  abbrev made-rows : Rows
+  made-rows = emitted rows names text M v
 
-    pub result-bindings : {before after : List ℕ} {r : ℕ} → Copied before 0 (binds M cap count) r after → Copied before 0 (R .bindings) r after
-    result-bindings {before} {after} {r} d = subst (λ (bs : List Binding). Copied before 0 bs r after) (K .list ∙ sym bindings-are) d
+  -- they are those of the result
+  rows-made : steps (namesOf names text) w (table rows) .rows ≡ made-rows
+  rows-made = rows-are w rows names text (C .on) (binds M (v .cap) (v .count)) (C .kept .list)
 
-    pub counted : count ≡ length (R .bindings)
-    counted = sym (binds-length M cap 1 count) ∙ ap length (K .list ∙ sym bindings-are)
+  -- the bindings of the array are those of the result
+  bindings-made : binds M (v .cap) (v .count) ≡ steps (namesOf names text) w (table rows) .bindings
+  bindings-made = C .kept .list ∙ sym (bindings-are w rows names text (C .on))
 
-    module _ (outRows outBindings dry : List ℕ) (total : ℕ) (D : Done [] 0 made-rows total dry) where
-      -- too many rows, or too many bindings
-      pub no-room-rows : length outRows / 16 < total → Answers (outcomeOf w rows names text outRows outBindings) 9 0 0 0 outRows outRows outBindings outBindings
-      no-room-rows l = full-rows w rows names text outRows outBindings (S .accepted) total (omega (arith, result-rows D .next)) l
+  -- and so many
+  counted : v .count ≡ length (steps (namesOf names text) w (table rows) .bindings)
+  counted = sym (binds-length M (v .cap) 1 (v .count)) ∙ ap length bindings-made
 
-      pub no-room-bindings : length outBindings / 12 < count → Answers (outcomeOf w rows names text outRows outBindings) 9 0 0 0 outRows outRows outBindings outBindings
-      no-room-bindings l = full-bindings w rows names text outRows outBindings (S .accepted) count counted l
+  -- with much room the rows fit, and need not be counted
+  pub much-room : (room : ℕ) → 8 * rowsIn rows + 11 * v .count ≤ room → true ≡ leb (size made-rows) room
+  much-room room l = sym (le-leb (size made-rows) room (omega (arith, result-within 16384 128 w rows names text (C .accepted) .rows-by, ap size rows-made, counted)))
 
-      -- all of it is written
-      pub all-written : (outRows′ outBindings′ : List ℕ) (written recorded : ℕ) → Done outRows 0 made-rows written outRows′ → Copied outBindings 0 (binds M cap count) recorded outBindings′
-          → total ≤ length outRows / 16 → count ≤ length outBindings / 12
-          → Answers (outcomeOf w rows names text outRows outBindings) 0 0 written recorded outRows outRows′ outBindings outBindings′
-      all-written outRows′ outBindings′ written recorded d b l m =
-          converted-all w rows names text outRows outBindings (S .accepted) outRows′ outBindings′ written recorded (result-rows d) (result-bindings b)
-          (omega (arith, result-rows D .next, result-rows d .next)) (omega (arith, counted, result-bindings b .next))
+  -- what the second walk asks of the table and of the array, and that no cursor wraps
+  pub walk-asks : (Ranged rows 0 (rowsIn rows) × GivenNames names text) × (Holds M v (rowsIn rows) × (size made-rows < 2 ^ 32))
+  walk-asks = (
+    (given-range w rows names text (C .accepted), given-names w rows names text (C .accepted)),
+    (record { store = C .kept .store; cap-low = C .low; rows-low = C .fits }, subst (λ (t : Rows). size t < 2 ^ 32) rows-made (result-small 16384 128 w rows names text (C .accepted))),
+  )
+
+  module _ (outRows outBindings : List ℕ) where
+    -- too many rows
+    pub no-room-rows : leb (size made-rows) (length outRows / 16) ≡ false → Answers (outcomeOf w rows names text outRows outBindings) 9 0 0 0 outRows outRows outBindings outBindings
+    no-room-rows l = full-rows w rows names text outRows outBindings (C .accepted) (size made-rows) (sym (ap size rows-made)) (leb-false (size made-rows) (length outRows / 16) l)
+
+    -- too many bindings
+    pub no-room-bindings : length outBindings / 12 < v .count → Answers (outcomeOf w rows names text outRows outBindings) 9 0 0 0 outRows outRows outBindings outBindings
+    no-room-bindings l = full-bindings w rows names text outRows outBindings (C .accepted) (v .count) counted l
+
+    -- all of it is written
+    pub all-written : (outRows′ outBindings′ : List ℕ) (written recorded : ℕ) → Done outRows 0 made-rows written outRows′ → Copied outBindings 0 (binds M (v .cap) (v .count)) recorded outBindings′
+        → leb (size made-rows) (length outRows / 16) ≡ true → v .count ≤ length outBindings / 12
+        → Answers (outcomeOf w rows names text outRows outBindings) 0 0 written recorded outRows outRows′ outBindings outBindings′
+    all-written outRows′ outBindings′ written recorded d b l m =
+        let n = leb-true (size made-rows) (length outRows / 16) l in
+        let e = subst (λ (bs : List Binding). Copied outBindings 0 bs recorded outBindings′) bindings-made b in
+        converted-all w rows names text outRows outBindings (C .accepted) outRows′ outBindings′ written recorded (named rows-made d) e
+        (omega (arith, d .next)) (omega (arith, counted, e .next))

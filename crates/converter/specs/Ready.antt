@@ -4,9 +4,15 @@ use mathlib.Core.Bool.{true, _||_}
 use mathlib.Core.List.{List}
 use Prim.Native.Nat.{ℕ, _≤_}
 use Rattle.rows.specs.Words.{rowsIn}
+use Rattle.rows.specs.Forest.{table}
 use Rattle.steps.specs.Mode.{Switches, enabled, asyncOnly}
+use Rattle.steps.specs.Context.{madeC}
+use Rattle.steps.specs.Outcome.{namesOf}
 use Rattle.steps.specs.Accepted.{Accepted}
+use Rattle.acts.specs.View.{switchesOf}
 use Rattle.bindings.specs.Store.{Store}
+use Rattle.bindings.specs.Post.{Kept}
+use Rattle.emit.specs.declared.Walk.{Walk}
 use Rattle.converter.specs.Answer.{numberOf, placeOf, rowsOf, bindingsOf}
 use Rattle.converter.specs.Converting.{outcomeOf, Answers}
 use Rattle.converter.specs.declared.answer.Converted.{Converted}
@@ -18,6 +24,14 @@ pub record Ready (w : Switches) (rows names text made : List ℕ) (cap : ℕ) : 
   pub empty : Store made cap 0
   pub low : cap ≤ 16384
   pub fits : rowsIn rows ≤ cap
+
+-- what the second walk is made over: such a table, and the array M that the first walk made, with its bindings
+pub record Collected (rows names text M : List ℕ) (v : Walk) : Type 0 where
+  pub accepted : Accepted 16384 128 (switchesOf (v .switches)) rows names text
+  pub on : (enabled (switchesOf (v .switches)) || asyncOnly (switchesOf (v .switches))) ≡ true
+  pub kept : Kept M (v .cap) (madeC (namesOf names text) (switchesOf (v .switches)) (table rows)) (v .count)
+  pub low : v .cap ≤ 16384
+  pub fits : rowsIn rows ≤ v .cap
 
 -- what the functions below `convert` promise of their answer, and of the two slices before and after
 abbrev pub Gives : Switches → (rows names text : List ℕ) → Converted → (outRows outRows′ outBindings outBindings′ : List ℕ) → Type 0

@@ -9,13 +9,31 @@ use emit::emit;
 ghost use mathlib.Core.Path.{_≡_};
 ghost use mathlib.Core.Bool.{true, _||_};
 ghost use Prim.Native.Nat.{ℕ, _≤_};
+ghost use lib.Dec.{leb};
 ghost use Rattle.rows.specs.Words.{rowsIn};
+ghost use Rattle.rows.specs.Forest.{size};
 ghost use Rattle.steps.specs.Mode.{enabled, asyncOnly};
 ghost use Rattle.steps.specs.Accepted.{Accepted};
 ghost use Rattle.acts.specs.View.{switchesOf};
-ghost use Rattle.converter.specs.Ready.{Ready, Gives};
+ghost use Rattle.emit.specs.Plans.{emitted};
+ghost use Rattle.converter.specs.Ready.{Ready, Collected, Gives};
 
-// The bindings, the number of rows, and where there is room for both, the rows and the records.
+// Whether the rows of the result fit into room for that many. A result has at most 8 rows for each row
+// and 11 for each binding, so that with much room nothing is counted.
+fn has_room(rows: &[u8], names: &[u8], text: &[u8], made: &[u32], walk: Walk, room: usize) -> bool
+    requires { ⌜ Collected (now rows) (now names) (now text) (now made) walk ⌝ }
+    ensures { λ r. ⌜ r ≡ leb (size (emitted (now (rows .entry)) (now (names .entry)) (now (text .entry)) (now (made .entry)) walk)) room ⌝ }
+{
+    let n = rows.len() / 16;
+    if 8 * n + 11 * walk.count <= room {
+        return true;
+    }
+    let mut nothing = [0u8; 0];
+    let total = emit(rows, names, text, made, walk, &mut nothing);
+    total <= room
+}
+
+// The bindings, and where there is room for them and for the rows, the rows and the records.
 fn write_result(
     switches: Switches,
     rows: &[u8],
@@ -36,9 +54,7 @@ fn write_result(
         cap,
         count,
     };
-    let mut nothing = [0u8; 0];
-    let total = emit(rows, names, text, made, walk, &mut nothing);
-    if out_rows.len() / 16 < total {
+    if !has_room(rows, names, text, made, walk, out_rows.len() / 16) {
         return Converted::NoRoom;
     }
     if out_bindings.len() / 12 < count {

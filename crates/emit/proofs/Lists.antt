@@ -5,7 +5,7 @@ use mathlib.Core.List.{List}
 use Prim.Native.Nat.{ℕ, _+_, _*_, _-_, _≤_, _<_, _^_}
 use native.Mathlib.Omega.{arith}
 use lib.Dec.{eqb}
-use Rattle.rows.specs.Kinds.{ExprStmt, Body, Return, Sequence}
+use Rattle.rows.specs.Kinds.{ExprStmt, Body, Return}
 use Rattle.rows.specs.Words.{words, rowsIn, kindAt, attrAt, nameAt, endAt}
 use Rattle.rows.specs.Forest.{Rows, Rows.none, Rows.node, size, rowsAt}
 use Rattle.rows.specs.Nested.{Nested, Range}
@@ -25,10 +25,10 @@ use Rattle.steps.specs.Walk.{build}
 use Rattle.steps.specs.Fused.{Pass, passOf, topS, buildS, emitS}
 use Rattle.below.specs.Below.{children}
 use Rattle.passes.specs.View.{opOf}
-use Rattle.acts.specs.View.{switchesOf, contextOf}
-use Rattle.acts.specs.Deciding.{spotOf}
+use Rattle.acts.specs.View.{switchesOf}
+use Rattle.plan.specs.Placing.{placeOf}
 use Rattle.output.specs.Output.{Done}
-use Rattle.output.proofs.Loops.{Left, all-left, turn, room-left, none-left}
+use Rattle.output.proofs.Loops.{Left, turn, room-left, none-left}
 use Rattle.plan.specs.Frames.{FramesBelow}
 use Rattle.plan.proofs.Leaving.{rows-size}
 use Rattle.emit.specs.declared.Walk.{Walk}
@@ -122,10 +122,10 @@ module _ (rows names text M : List ℕ) (v : Walk) (good : Nested (words rows) (
     inside-is : inside rows names text M v (p .inner) ≡ emitS N w bs (S .bind) (S .scan) (into w q (A .one)) (into w q (A .more)) (i + 1) (children ws i)
     inside-is = rw (P .says .bind, P .says .scan, same-pass, P .does .first, P .does .later, P .from, P .end) refl
 
-    dressed-from : (f : Rows) → rowS (spotOf (p .spot)) (p .bind) (p .words .kind) (frameIn p) (p .met) (p .first) (opOf (p .op)) f ≡ rowS q b (kindAt ws i) r (S .met) (S .first) (A .op) f
+    dressed-from : (f : Rows) → rowS (spot (placeOf (p .spot) .ctx) (p .slot)) (p .bind) (p .words .kind) (frameIn p) (p .met) (p .first) (opOf (p .op)) f ≡ rowS q b (kindAt ws i) r (S .met) (S .first) (A .op) f
     dressed-from f =
-        rw (P .bind, P .kind, frame-is, P .says .met, P .says .first, same-pass, P .does .becomes)
-        (ap (λ (s : Spot). rowS s b (kindAt ws i) r (S .met) (S .first) (A .op) f) (P .spot))
+        rw (P .bind, P .kind, frame-is, P .says .met, P .says .first, same-pass, P .does .becomes, P .slot)
+        (ap (λ (s : Spot). rowS (spot (s .ctx) (q .slot)) b (kindAt ws i) r (S .met) (S .first) (A .op) f) (P .spot))
 
     dressed-is : dressed rows names text M v p ≡ rowS q b (kindAt ws i) r (S .met) (S .first) (A .op) (inside rows names text M v (p .inner))
     dressed-is = dressed-from (inside rows names text M v (p .inner))

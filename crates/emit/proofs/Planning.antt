@@ -24,13 +24,14 @@ use Rattle.steps.proofs.Numbering.{number-low}
 use Rattle.bindings.proofs.Arrays.{binds-length}
 use Rattle.bindings.proofs.Numbered.{this-number}
 use Rattle.passes.specs.declared.Pass.{Pass as Passed}
-use Rattle.acts.specs.declared.act.Act.{Act as Acted}
-use Rattle.acts.specs.declared.act.Spot.{Spot as Place}
+use Rattle.plan.specs.declared.Act.{Act as Acted}
+use Rattle.plan.specs.declared.place.Place.{Place}
 use Rattle.passes.specs.View.{opOf, Says}
 use Rattle.below.specs.Below.{At, children}
-use Rattle.acts.specs.View.{switchesOf, contextOf}
-use Rattle.acts.specs.Deciding.{spotOf, Does}
-use Rattle.plan.specs.Frames.{FramesBelow, ActLow, Small}
+use Rattle.acts.specs.View.{switchesOf}
+use Rattle.plan.specs.Placing.{placeOf}
+use Rattle.plan.specs.Taking.{Takes, ActLow}
+use Rattle.plan.specs.Frames.{FramesBelow, Small}
 use Rattle.plan.proofs.Frames.{row-act-low}
 use Rattle.emit.specs.declared.Walk.{Walk}
 use Rattle.emit.specs.declared.Plan.{Plan}
@@ -52,8 +53,8 @@ module _ (rows names text M : List ℕ) (v : Walk) (b sc : ℕ) (q : Spot) (i : 
     abbrev A : Act
     A = actC N w q i (kindAt ws i) (attrAt ws i) (nameAt ws i) (children ws i)
 
-    slot-is : p .spot .slot ≡ q .slot
-    slot-is = ap (λ (s : Spot). s .slot) (P .spot)
+    slot-is : p .slot ≡ q .slot
+    slot-is = P .slot
 
     met-is : p .met ≡ metOf (own (q .slot) sc) (kindAt ws i) (firstSuper (children ws i))
     unfolding passOf
@@ -66,7 +67,7 @@ module _ (rows names text M : List ℕ) (v : Walk) (b sc : ℕ) (q : Spot) (i : 
     words-are : row (kindAt ws i) (attrAt ws i) (nameAt ws i) ≡ row (p .words .kind) (p .words .attr) (p .words .name)
     words-are = rw (P .kind, P .attr, P .name) refl
 
-    closes-is : closes (p .spot .slot) (p .words .kind) ≡ closes (q .slot) (kindAt ws i)
+    closes-is : closes (p .slot) (p .words .kind) ≡ closes (q .slot) (kindAt ws i)
     closes-is = rw (slot-is, P .kind) refl
 
     statement-is : isStatement (p .words .kind) ≡ isStatement (kindAt ws i)
@@ -120,11 +121,12 @@ module _ (rows names text M : List ℕ) (v : Walk) (b sc : ℕ) (q : Spot) (i : 
         }
 
 -- the plan, by the values that the code has
-module _ (rows names text M : List ℕ) (v : Walk) (b sc : ℕ) (q : Place) (i k a n e m : ℕ) (sup called : Bool) (A : Acted) (s : Passed) where
+module _ (rows names text M : List ℕ) (v : Walk) (b sc : ℕ) (q : Place) (i sl k a n e m : ℕ) (sup called : Bool) (A : Acted) (s : Passed) where
   abbrev it : Plan
   it = record {
     inner = record { from = i + 1; end = e; bind = s .bind; state = s .scan; one = A .one; more = A .more };
     spot = q;
+    slot = sl;
     bind = b;
     words = record { kind = k; attr = a; name = n };
     op = A .op;
@@ -133,29 +135,30 @@ module _ (rows names text M : List ℕ) (v : Walk) (b sc : ℕ) (q : Place) (i k
     next = s .next;
   }
 
-  pub plan-is : At rows (rowsIn rows) i → GivenNames names text → Holds M v (rowsIn rows) → FramesBelow (v .cap) (contextOf (q .context)) → b ≤ 16384
-      → k ≡ kindAt (words rows) i → a ≡ attrAt (words rows) i → n ≡ nameAt (words rows) i → e ≡ endAt (words rows) i
-      → Does (switchesOf (v .switches)) (contextOf (q .context)) (actC (namesOf names text) (switchesOf (v .switches)) (spotOf q) i (kindAt (words rows) i) (attrAt (words rows) i) (nameAt (words rows) i) (children (words rows) i)) A
-      → Small (words rows) i → A .more .context .«this_at» < v .cap → m ≡ getD M (4 * v .cap + A .more .context .«this_at») 0
-      → sup ≡ firstSuper (children (words rows) i) → called ≡ superCall (children (words rows) i) → Says s (passOf b sc (q .slot) k m sup called (opOf (A .op)))
-      → Planned (namesOf names text) M (words rows) v b sc (spotOf q) i it × RowPre rows names text M v it
-  plan-is g names-given holds low bound hk ha hn he D small fr hm hs hc S =
-      let number-is : m ≡ number (namesOf names text) (listOf M v) 1 (A .more .context .«this_at») 0 = hm ∙ this-number (namesOf names text) M (v .cap) (v .count) (holds .store) (A .more .context .«this_at») fr in
-      let P : Planned (namesOf names text) M (words rows) v b sc (spotOf q) i it = record {
+  pub plan-is : At rows (rowsIn rows) i → GivenNames names text → Holds M v (rowsIn rows) → FramesBelow (v .cap) (placeOf q .ctx) → b ≤ 16384
+      → sl ≡ placeOf q .slot → k ≡ kindAt (words rows) i → a ≡ attrAt (words rows) i → n ≡ nameAt (words rows) i → e ≡ endAt (words rows) i
+      → Takes (switchesOf (v .switches)) (placeOf q .ctx) (actC (namesOf names text) (switchesOf (v .switches)) (placeOf q) i (kindAt (words rows) i) (attrAt (words rows) i) (nameAt (words rows) i) (children (words rows) i)) A
+      → Small (words rows) i → placeOf (A .more) .ctx .thisAt < v .cap → m ≡ getD M (4 * v .cap + placeOf (A .more) .ctx .thisAt) 0
+      → sup ≡ firstSuper (children (words rows) i) → called ≡ superCall (children (words rows) i) → Says s (passOf b sc sl k m sup called (opOf (A .op)))
+      → Planned (namesOf names text) M (words rows) v b sc (placeOf q) i it × RowPre rows names text M v it
+  plan-is g names-given holds low bound hsl hk ha hn he D small fr hm hs hc S =
+      let number-is : m ≡ number (namesOf names text) (listOf M v) 1 (placeOf (A .more) .ctx .thisAt) 0 = hm ∙ this-number (namesOf names text) M (v .cap) (v .count) (holds .store) (placeOf (A .more) .ctx .thisAt) fr in
+      let P : Planned (namesOf names text) M (words rows) v b sc (placeOf q) i it = record {
         from = refl;
         end = he;
         spot = refl;
+        slot = hsl;
         bind = refl;
         kind = hk;
         attr = ha;
         name = hn;
         does = D;
-        says = subst (λ (x : ℕ). Says s (passOf b sc (q .slot) (kindAt (words rows) i) x (firstSuper (children (words rows) i)) (superCall (children (words rows) i)) (opOf (A .op)))) number-is
-            (subst (λ (x : ℕ). Says s (passOf b sc (q .slot) x m (firstSuper (children (words rows) i)) (superCall (children (words rows) i)) (opOf (A .op)))) hk
-            (subst (λ (y : Bool). Says s (passOf b sc (q .slot) k m y (superCall (children (words rows) i)) (opOf (A .op)))) hs
-            (subst (λ (y : Bool). Says s (passOf b sc (q .slot) k m sup y (opOf (A .op)))) hc S)));
+        says = subst (λ (x : ℕ). Says s (passOf b sc (placeOf q .slot) (kindAt (words rows) i) x (firstSuper (children (words rows) i)) (superCall (children (words rows) i)) (opOf (A .op)))) number-is
+            (subst (λ (x : ℕ). Says s (passOf b sc (placeOf q .slot) x m (firstSuper (children (words rows) i)) (superCall (children (words rows) i)) (opOf (A .op)))) hk
+            (subst (λ (y : Bool). Says s (passOf b sc (placeOf q .slot) k m y (superCall (children (words rows) i)) (opOf (A .op)))) hs
+            (subst (λ (y : Bool). Says s (passOf b sc (placeOf q .slot) k m sup y (opOf (A .op)))) hc (subst (λ (x : ℕ). Says s (passOf b sc x k m sup called (opOf (A .op)))) hsl S))));
       } in (
         P,
-        row-pre rows names text M v b sc (spotOf q) i it P g names-given holds low bound small
-            (let c = holds .cap-low in let r = holds .store .room in omega (arith, number-low (namesOf names text) 1 (A .more .context .«this_at») 0 (listOf M v), binds-length M (v .cap) 1 (v .count))),
+        row-pre rows names text M v b sc (placeOf q) i it P g names-given holds low bound small
+            (let c = holds .cap-low in let r = holds .store .room in omega (arith, number-low (namesOf names text) 1 (placeOf (A .more) .ctx .thisAt) 0 (listOf M v), binds-length M (v .cap) 1 (v .count))),
       )

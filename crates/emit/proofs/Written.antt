@@ -8,7 +8,7 @@ use native.Mathlib.Omega.{arith}
 use lib.Dec.{eqb}
 use borrow.Author.Tests.{eqb-true, eqb-false}
 use lib.ListN.{getD}
-use Rattle.rows.specs.Kinds.{Program, ExprStmt, Return, This, Ident, Member, Call, Body, Sequence}
+use Rattle.rows.specs.Kinds.{Program, ExprStmt, This, Ident, Member, Call, Sequence}
 use Rattle.rows.specs.Forest.{Rows, Rows.none, Rows.node, size}
 use Rattle.steps.specs.Naming.{Names}
 use Rattle.steps.specs.Outcome.{namesOf}
@@ -30,6 +30,7 @@ use Rattle.passes.specs.View.{opOf}
 use Rattle.output.specs.Output.{Done}
 use Rattle.output.proofs.Writing.{size-one, size-leaf, size-join}
 use Rattle.output.proofs.Shapes.{size-assignment}
+use Rattle.plan.specs.Placing.{placeOf}
 use Rattle.emit.specs.declared.Walk.{Walk}
 use Rattle.emit.specs.declared.Siblings.{Siblings}
 use Rattle.emit.specs.declared.Plan.{Plan}
@@ -90,16 +91,16 @@ module _ (rows names text M : List ℕ) (v : Walk) (sl k : ℕ) (n : Siblings) w
   kept-inside h = open-topped (function-open k sl h)
 
   -- the Var goes first
-  pub top-join : Store M (v .cap) (v .count) → n .more .context .«this_at» < v .cap → topped rows names text M v sl k n ≡ join (topRows M v sl k (n .more .context .«this_at»)) inn
+  pub top-join : Store M (v .cap) (v .count) → placeOf (n .more) .ctx .thisAt < v .cap → topped rows names text M v sl k n ≡ join (topRows M v sl k (placeOf (n .more) .ctx .thisAt)) inn
   unfolding topS
   top-join S h = go (closes sl k)
     where
-      go : (y : Bool) → cond y (varFirst (declared N (listOf M v) (n .more .context .«this_at») (eqb k Program) (eqb sl lateBody)) inn) inn
-          ≡ join (cond y (varFirst (frameDecls M (v .cap) (v .count) (n .more .context .«this_at») (eqb k Program) (eqb sl lateBody)) none) none) inn
-      go true = ap (λ (d : Rows). varFirst d inn) (frame-decls N M (v .cap) (v .count) (n .more .context .«this_at») (eqb k Program) (eqb sl lateBody) S h) ∙ first-join _ inn
+      go : (y : Bool) → cond y (varFirst (declared N (listOf M v) (placeOf (n .more) .ctx .thisAt) (eqb k Program) (eqb sl lateBody)) inn) inn
+          ≡ join (cond y (varFirst (frameDecls M (v .cap) (v .count) (placeOf (n .more) .ctx .thisAt) (eqb k Program) (eqb sl lateBody)) none) none) inn
+      go true = ap (λ (d : Rows). varFirst d inn) (frame-decls N M (v .cap) (v .count) (placeOf (n .more) .ctx .thisAt) (eqb k Program) (eqb sl lateBody) S h) ∙ first-join _ inn
       go false = sym (nothing-first inn)
 
-  pub top-size : Store M (v .cap) (v .count) → n .more .context .«this_at» < v .cap → size (topped rows names text M v sl k n) ≡ size (topRows M v sl k (n .more .context .«this_at»)) + size inn
+  pub top-size : Store M (v .cap) (v .count) → placeOf (n .more) .ctx .thisAt < v .cap → size (topped rows names text M v sl k n) ≡ size (topRows M v sl k (placeOf (n .more) .ctx .thisAt)) + size inn
   top-size S h = ap size (top-join S h) ∙ size-join _ inn
 
 module _ (rows names text M : List ℕ) (v : Walk) (p : Plan) where
@@ -110,17 +111,17 @@ module _ (rows names text M : List ℕ) (v : Walk) (p : Plan) where
   I = inside rows names text M v (p .inner)
 
   abbrev T : Rows
-  T = topped rows names text M v (p .spot .slot) (p .words .kind) (p .inner)
+  T = topped rows names text M v (p .slot) (p .words .kind) (p .inner)
 
-  closed-not : closes (p .spot .slot) (p .words .kind) ≡ false → T ≡ I
-  closed-not h = open-topped rows names text M v (p .spot .slot) (p .words .kind) (p .inner) h
+  closed-not : closes (p .slot) (p .words .kind) ≡ false → T ≡ I
+  closed-not h = open-topped rows names text M v (p .slot) (p .words .kind) (p .inner) h
 
   module _ (F : Formed p) where
     abbrev row-of : Rows → Rows → Rows
     row-of i s = node (p .words .kind) (p .words .attr) (p .words .name) i s
 
     -- a statement
-    pub statement-rows : isStatement (p .words .kind) ≡ true → eqb (p .spot .slot) wrapped ≡ false
+    pub statement-rows : isStatement (p .words .kind) ≡ true → eqb (p .slot) wrapped ≡ false
         → dressed rows names text M v p ≡ row-of I (cond (p .first) (node ExprStmt 0 0 (assignment (p .bind)) none) none)
     unfolding dress buildS build
     statement-rows h w =
@@ -162,13 +163,13 @@ module _ (rows names text M : List ℕ) (v : Walk) (p : Plan) where
           ∙ ap (λ (b : ℕ). node Ident 1 b none none) (number-capture NN u f few (listOf M v) (S .bare) ∙ sym (table-is M (v .cap) (v .count) u f S low (one-or-two u some few)))
 
       -- `get().call(this, ..)`
-      pub called-rows : (u f x : ℕ) → opOf (p .op) ≡ call u f x true → Store M (v .cap) (v .count) → p .spot .context .«this_at» < v .cap
-          → built rows names text M v p none ≡ node Member 1 0 (node Call 0 0 (node Ident 1 (number NN (listOf M v) u f x) none I) none) (thisRow M (v .cap) (p .spot .context .«takes_this») (p .spot .context .«this_at»))
+      pub called-rows : (u f x : ℕ) → opOf (p .op) ≡ call u f x true → Store M (v .cap) (v .count) → placeOf (p .spot) .ctx .thisAt < v .cap
+          → built rows names text M v p none ≡ node Member 1 0 (node Call 0 0 (node Ident 1 (number NN (listOf M v) u f x) none I) none) (thisRow M (v .cap) (placeOf (p .spot) .ctx .takesThis) (placeOf (p .spot) .ctx .thisAt))
       unfolding buildS build isRow thisRow
       called-rows u f x h S low =
           rw (m, g, h)
-          (ap (λ (t : Rows). node Member 1 0 (node Call 0 0 (node Ident 1 (number NN (listOf M v) u f x) none t) none) (cond (p .spot .context .«takes_this») (node Ident 1 (number NN (listOf M v) 1 (p .spot .context .«this_at») 0) none none) (node This 0 0 none none))) (rowless-topped (call u f x true) h refl)
-          ∙ ap (λ (b : ℕ). node Member 1 0 (node Call 0 0 (node Ident 1 (number NN (listOf M v) u f x) none I) none) (cond (p .spot .context .«takes_this») (node Ident 1 b none none) (node This 0 0 none none))) (sym (this-number NN M (v .cap) (v .count) S (p .spot .context .«this_at») low)))
+          (ap (λ (t : Rows). node Member 1 0 (node Call 0 0 (node Ident 1 (number NN (listOf M v) u f x) none t) none) (cond (placeOf (p .spot) .ctx .takesThis) (node Ident 1 (number NN (listOf M v) 1 (placeOf (p .spot) .ctx .thisAt) 0) none none) (node This 0 0 none none))) (rowless-topped (call u f x true) h refl)
+          ∙ ap (λ (b : ℕ). node Member 1 0 (node Call 0 0 (node Ident 1 (number NN (listOf M v) u f x) none I) none) (cond (placeOf (p .spot) .ctx .takesThis) (node Ident 1 b none none) (node This 0 0 none none))) (sym (this-number NN M (v .cap) (v .count) S (placeOf (p .spot) .ctx .thisAt) low)))
 
       pub row-size : (k a n : ℕ) → opOf (p .op) ≡ row k a n → size (built rows names text M v p none) ≡ 1 + size T
       row-size k a n h = ap size (row-rows k a n h) ∙ size-one k a n T
@@ -184,17 +185,17 @@ module _ (rows names text M : List ℕ) (v : Walk) (p : Plan) where
       unfolding size
       call-size u f x h = let z = ap size (call-rows u f x h) in omega arith
 
-      pub called-size : (u f x : ℕ) → opOf (p .op) ≡ call u f x true → Store M (v .cap) (v .count) → p .spot .context .«this_at» < v .cap → size (built rows names text M v p none) ≡ 4 + size I
+      pub called-size : (u f x : ℕ) → opOf (p .op) ≡ call u f x true → Store M (v .cap) (v .count) → placeOf (p .spot) .ctx .thisAt < v .cap → size (built rows names text M v p none) ≡ 4 + size I
       unfolding size
       called-size u f x h S low =
           let z = ap size (called-rows u f x h S low) in
-          omega (arith, this-size M (v .cap) (p .spot .context .«takes_this») (p .spot .context .«this_at»))
+          omega (arith, this-size M (v .cap) (placeOf (p .spot) .ctx .takesThis) (placeOf (p .spot) .ctx .thisAt))
 
     pub sequence-size : p .met ≡ true → p .first ≡ false → size (built rows names text M v p none) ≡ 6 + size I
     unfolding size
     sequence-size h g = let z = ap size (sequence-rows h g) in omega (arith, size-assignment (p .bind))
 
-    module _ (h : isStatement (p .words .kind) ≡ true) (w : eqb (p .spot .slot) wrapped ≡ false) where
+    module _ (h : isStatement (p .words .kind) ≡ true) (w : eqb (p .slot) wrapped ≡ false) where
       pub statement-plain : p .first ≡ false → dressed rows names text M v p ≡ row-of I none
       statement-plain g = statement-rows h w ∙ ap (λ (y : Bool). row-of I (cond y (node ExprStmt 0 0 (assignment (p .bind)) none) none)) g
 
@@ -210,21 +211,9 @@ module _ (rows names text M : List ℕ) (v : Walk) (p : Plan) where
       assigned-size g = let z = ap size (statement-assigned g) in omega (arith, size-assignment (p .bind))
 
     -- which walker a row of a list goes to
-    pub expression-first : (r : Bool) → r ≡ isStatement (p .words .kind) → (r && not (eqb (p .spot .slot) wrapped)) ≡ false → p .first ≡ false
-    expression-first true e h = F .dressing (unnot (eqb (p .spot .slot) wrapped) h)
+    pub expression-first : (r : Bool) → r ≡ isStatement (p .words .kind) → (r && not (eqb (p .slot) wrapped)) ≡ false → p .first ≡ false
+    expression-first true e h = F .dressing (unnot (eqb (p .slot) wrapped) h)
     expression-first false e h = F .other (sym e)
-
-  pub wrapped-rows : eqb (p .spot .slot) wrapped ≡ true → dressed rows names text M v p ≡ node Body 0 0 (node Return 0 0 (built rows names text M v p none) none) none
-  unfolding dress
-  wrapped-rows h = rw h refl
-
-  pub unwrapped-rows : eqb (p .spot .slot) wrapped ≡ false → dressed rows names text M v p ≡ built rows names text M v p none
-  unfolding dress
-  unwrapped-rows h = rw h refl
-
-  pub wrapped-size : eqb (p .spot .slot) wrapped ≡ true → size (dressed rows names text M v p) ≡ 2 + size (built rows names text M v p none)
-  unfolding size
-  wrapped-size h = let z = ap size (wrapped-rows h) in omega arith
 
 -- a statement that is no wrapped body
 pub statement-test : (k s : ℕ) (r : Bool) → r ≡ isStatement k → (r && not (eqb s wrapped)) ≡ true → (isStatement k ≡ true) × (eqb s wrapped ≡ false)

@@ -1,16 +1,16 @@
 // The second walk: the rows of the result, written from the rows and the bindings.
+mod bodies;
 mod identifiers;
 pub mod plans;
 mod top;
 pub mod walkers;
 
-use acts::act::Spot;
 use acts::act::Words;
-use acts::context::at_program;
 use acts::switches::Switches;
 use passes::Becomes;
-use passes::slots::FREE;
 use passes::states::COPY;
+use plan::place::Place;
+use plan::place::program;
 use walkers::list;
 ghost use Prim.Native.Nat.{_<_, _^_};
 ghost use Rattle.rows.specs.Words.{rowsIn};
@@ -34,16 +34,17 @@ pub struct Siblings {
     pub end: usize,
     pub bind: usize,
     pub state: usize,
-    pub one: Spot,
-    pub more: Spot,
+    pub one: Place,
+    pub more: Place,
 }
 
-// All that is decided of a row before it is written: its children, where it is, the binding that
-// module 7 assigns around it, its words, what becomes of it, and what module 7 says of it: whether it
+// All that is decided of a row before it is written: its children, where it is and its slot, the binding
+// that module 7 assigns around it, its words, what becomes of it, and what module 7 says of it: whether it
 // becomes a Sequence, whether the assignment goes behind it, and the state of the rows after it.
 pub struct Plan {
     pub inner: Siblings,
-    pub spot: Spot,
+    pub spot: Place,
+    pub slot: usize,
     pub bind: usize,
     pub words: Words,
     pub op: Becomes,
@@ -67,10 +68,7 @@ pub fn emit(
     ensures { λ r. ⌜ Done (now (out .entry)) 0 (emitted (now (rows .entry)) (now (names .entry)) (now (text .entry)) (now (made .entry)) walk) r (now (out .exit)) ⌝ }
 {
     let n = rows.len() / 16;
-    let start = Spot {
-        context: at_program(),
-        slot: FREE,
-    };
+    let start = program();
     let all = Siblings {
         from: 0,
         end: n,

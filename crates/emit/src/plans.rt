@@ -2,8 +2,8 @@
 use crate::Plan;
 use crate::Siblings;
 use crate::Walk;
-use acts::act::Spot;
 use acts::act::Words;
+use acts::switches::Switches;
 use below::attr_at;
 use below::end_at;
 use below::kind_at;
@@ -11,10 +11,16 @@ use below::look;
 use below::name_at;
 use bindings::entry;
 use passes::pass_of;
-use plan::row_act;
+use passes::states::COPY;
+use passes::states::VISIT;
+use plan::act_at;
+use plan::late::is_late;
+use plan::place::Place;
+use plan::stays::stays;
 use rows::kinds::ARROW;
 use rows::kinds::BLOCK;
 use rows::kinds::BODY;
+use rows::kinds::CALL;
 use rows::kinds::CLASS;
 use rows::kinds::DECLARATOR;
 use rows::kinds::EXPR_STMT;
@@ -28,16 +34,19 @@ use rows::kinds::RETURN;
 use rows::kinds::STATIC_BLOCK;
 use rows::kinds::VAR;
 ghost use mathlib.Core.Path.{_≡_};
-ghost use Prim.Native.Nat.{ℕ, _≤_};
+ghost use mathlib.Core.Bool.{true};
+ghost use Prim.Native.Nat.{ℕ, _+_, _*_, _≤_, _<_};
+ghost use lib.ListN.{length};
 ghost use Rattle.rows.specs.Words.{words, rowsIn};
 ghost use Rattle.spelling.specs.Spelling.{GivenNames};
 ghost use Rattle.steps.specs.Outcome.{namesOf};
 ghost use Rattle.below.specs.Below.{At};
-ghost use Rattle.acts.specs.View.{contextOf};
-ghost use Rattle.acts.specs.Deciding.{spotOf};
+ghost use Rattle.acts.specs.View.{switchesOf};
+ghost use Rattle.plan.specs.Placing.{placeOf};
 ghost use Rattle.plan.specs.Frames.{FramesBelow};
 ghost use Rattle.emit.specs.Walkers.{isStatement, isFunction, isClass};
 ghost use Rattle.emit.specs.Plans.{Holds, Planned, RowPre};
+ghost use Rattle.emit.specs.Unchanged.{Steady, Unchanged, WordsOf, Along};
 
 // Statements, and a Var's Declarators.
 pub fn is_statement(kind: usize) -> bool
@@ -79,33 +88,31 @@ pub fn plan_at(
     walk: Walk,
     bind: usize,
     state: usize,
-    q: Spot,
+    q: Place,
     i: usize,
 ) -> Plan
     requires { ⌜ At (now rows) (rowsIn (now rows)) i ⌝ }
     requires { ⌜ GivenNames (now names) (now text) ⌝ }
     requires { ⌜ Holds (now made) walk (rowsIn (now rows)) ⌝ }
-    requires { ⌜ FramesBelow (walk .cap) (contextOf (q .context)) × (bind ≤ 16384) ⌝ }
-    ensures { λ r. ⌜ Planned (namesOf (now (names .entry)) (now (text .entry))) (now (made .entry)) (words (now (rows .entry))) walk bind state (spotOf q) i r ⌝ }
+    requires { ⌜ FramesBelow (walk .cap) (placeOf q .ctx) × (bind ≤ 16384) ⌝ }
+    ensures { λ r. ⌜ Planned (namesOf (now (names .entry)) (now (text .entry))) (now (made .entry)) (words (now (rows .entry))) walk bind state (placeOf q) i r ⌝ }
     ensures { λ r. ⌜ RowPre (now (rows .entry)) (now (names .entry)) (now (text .entry)) (now (made .entry)) walk r ⌝ }
 {
-    let act = row_act(rows, names, text, walk.switches, q, i);
-    let words = Words {
-        kind: kind_at(rows, i),
-        attr: attr_at(rows, i),
-        name: name_at(rows, i),
-    };
+    let late = is_late(rows, names, text, walk.switches, q, i);
+    let act = act_at(rows, names, text, walk.switches, q, i, late);
+    let words = words_at(rows, i);
     let end = end_at(rows, i);
     let below = look(rows, i);
-    let frame = act.more.context.this_at;
-    let m = entry(made, 4 * walk.cap + frame);
     let op = act.op;
     let one = act.one;
     let more = act.more;
+    let frame = more.this_at();
+    let m = entry(made, 4 * walk.cap + frame);
+    let slot = q.slot();
     let pass = pass_of(
         bind,
         state,
-        q.slot,
+        slot,
         words.kind,
         m,
         below.first_super,
@@ -122,11 +129,69 @@ pub fn plan_at(
             more,
         },
         spot: q,
+        slot,
         bind,
         words,
         op,
         met: pass.met,
         first: pass.first,
         next: pass.next,
+    }
+}
+
+// Whether module 7 leaves a row of that kind alone in a list of that state, and its children and the
+// rows after it are in the same state.
+fn is_steady(state: usize, kind: usize) -> bool
+    ensures { λ r. ⌜ (r ≡ true → Steady state kind) ⌝ }
+{
+    if state == COPY {
+        return true;
+    }
+    let turns = (kind == STATIC_BLOCK)
+        | (kind == CALL)
+        | (kind == BLOCK)
+        | (kind == BODY)
+        | (kind == FUNCTION)
+        | (kind == CLASS);
+    (state == VISIT) & !turns
+}
+
+// Whether row i is known to stay as it is, with its children in its place and state.
+pub fn stays_at(rows: &[u8], switches: Switches, state: usize, q: Place, i: usize) -> bool
+    requires { ⌜ At (now rows) (rowsIn (now rows)) i ⌝ }
+    ensures { λ r. ⌜ (r ≡ true → Unchanged (switchesOf switches) (placeOf q) state (words (now (rows .entry))) i) ⌝ }
+{
+    let kind = kind_at(rows, i);
+    if !is_steady(state, kind) {
+        return false;
+    }
+    stays(switches, q, kind, attr_at(rows, i))
+}
+
+// The words of row i.
+pub fn words_at(rows: &[u8], i: usize) -> Words
+    requires { ⌜ 16 * i + 15 < length (now rows) ⌝ }
+    ensures { λ r. ⌜ WordsOf (words (now (rows .entry))) i r ⌝ }
+{
+    Words {
+        kind: kind_at(rows, i),
+        attr: attr_at(rows, i),
+        name: name_at(rows, i),
+    }
+}
+
+// The children of row i, where they stand in its place and state.
+pub fn along(rows: &[u8], bind: usize, state: usize, q: Place, i: usize) -> Siblings
+    requires { ⌜ At (now rows) (rowsIn (now rows)) i ⌝ }
+    ensures { λ r. ⌜ Along (words (now (rows .entry))) bind state (placeOf q) i r ⌝ }
+{
+    let inside = q.inside();
+    Siblings {
+        from: i + 1,
+        end: end_at(rows, i),
+        bind,
+        state,
+        one: inside,
+        more: inside,
     }
 }

@@ -3,22 +3,27 @@
 use crate::Plan;
 use crate::Siblings;
 use crate::Walk;
+use crate::bodies::close_body;
+use crate::bodies::open_body;
 use crate::identifiers::accessor_identifier;
 use crate::identifiers::captured_identifier;
 use crate::identifiers::get_this_identifier;
+use crate::plans::along;
 use crate::plans::is_class;
 use crate::plans::is_function;
 use crate::plans::is_statement;
 use crate::plans::plan_at;
+use crate::plans::stays_at;
+use crate::plans::words_at;
 use crate::top::insert_at_the_top;
 use acts::act::Words;
-use acts::context::Context;
 use bindings::frame::Frame;
 use output::append;
 use output::inserted::assignment;
 use output::patch_end;
 use passes::Becomes;
 use passes::slots::WRAPPED;
+use plan::place::Place;
 use rows::kinds;
 ghost use mathlib.Core.Path.{_≡_};
 ghost use mathlib.Core.Bool.{Bool, true, false, _||_};
@@ -31,19 +36,16 @@ ghost use Rattle.steps.specs.Slots.{wrapped};
 ghost use Rattle.steps.specs.AfterSuper as after;
 ghost use Rattle.steps.specs.Bindings.{number};
 ghost use Rattle.output.specs.Output.{Done};
+ghost use Rattle.plan.specs.Placing.{placeOf};
 ghost use Rattle.emit.specs.Walkers.{isStatement};
 ghost use Rattle.emit.specs.Idents.{thisRow};
 ghost use Rattle.emit.specs.Plans.{listOf, inside, topped, built, dressed, InnerPre, RowPre, Fit};
 
 const EXPR_STMT: u32 = kinds::EXPR_STMT as u32;
 
-const RETURN: u32 = kinds::RETURN as u32;
-
 const MEMBER: u32 = kinds::MEMBER as u32;
 
 const CALL: u32 = kinds::CALL as u32;
-
-const BODY: u32 = kinds::BODY as u32;
 
 const SEQUENCE: u32 = kinds::SEQUENCE as u32;
 
@@ -70,16 +72,23 @@ pub fn list(
     let mut state = siblings.state;
     let mut next = at;
     while i < end {
-        let plan = plan_at(rows, names, text, made, walk, bind, state, q, i);
-        let statement_kind = is_statement(plan.words.kind);
-        if statement_kind & !(plan.spot.slot == WRAPPED) {
-            next = statement(rows, names, text, made, walk, plan, out, next);
+        if stays_at(rows, walk.switches, state, q, i) {
+            let head = words_at(rows, i);
+            let inner = along(rows, bind, state, q, i);
+            next = around(rows, names, text, made, walk, inner, head, out, next);
+            i = inner.end;
         } else {
-            next = expression(rows, names, text, made, walk, plan, out, next);
+            let plan = plan_at(rows, names, text, made, walk, bind, state, q, i);
+            let statement_kind = is_statement(plan.words.kind);
+            if statement_kind & !(plan.slot == WRAPPED) {
+                next = statement(rows, names, text, made, walk, plan, out, next);
+            } else {
+                next = expression(rows, names, text, made, walk, plan, out, next);
+            }
+            i = plan.inner.end;
+            state = plan.next;
         }
-        i = plan.inner.end;
         q = more;
-        state = plan.next;
     }
     next
 }
@@ -101,6 +110,16 @@ fn around(
     requires { ⌜ at + (1 + size (inside (now rows) (now names) (now text) (now made) walk inner)) < 2 ^ 32 ⌝ }
     ensures { λ r. ⌜ Done (now (out .entry)) at (node (head .kind) (head .attr) (head .name) (inside (now (rows .entry)) (now (names .entry)) (now (text .entry)) (now (made .entry)) walk inner) none) r (now (out .exit)) ⌝ }
 {
+    if inner.end <= inner.from {
+        return append(
+            out,
+            at,
+            head.kind as u32,
+            head.attr as u32,
+            head.name as u32,
+            (at + 1) as u32,
+        );
+    }
     let first = append(
         out,
         at,
@@ -126,7 +145,7 @@ fn statement(
     at: usize,
 ) -> usize
     requires { ⌜ RowPre (now rows) (now names) (now text) (now made) walk plan ⌝ }
-    requires { ⌜ (isStatement (plan .words .kind) ≡ true) × (eqb (plan .spot .slot) wrapped ≡ false) ⌝ }
+    requires { ⌜ (isStatement (plan .words .kind) ≡ true) × (eqb (plan .slot) wrapped ≡ false) ⌝ }
     requires { ⌜ at + size (dressed (now rows) (now names) (now text) (now made) walk plan) < 2 ^ 32 ⌝ }
     ensures { λ r. ⌜ Done (now (out .entry)) at (dressed (now (rows .entry)) (now (names .entry)) (now (text .entry)) (now (made .entry)) walk plan) r (now (out .exit)) ⌝ }
 {
@@ -166,15 +185,11 @@ fn expression(
     requires { ⌜ at + size (dressed (now rows) (now names) (now text) (now made) walk plan) < 2 ^ 32 ⌝ }
     ensures { λ r. ⌜ Done (now (out .entry)) at (dressed (now (rows .entry)) (now (names .entry)) (now (text .entry)) (now (made .entry)) walk plan) r (now (out .exit)) ⌝ }
 {
-    if plan.spot.slot == WRAPPED {
-        let body = append(out, at, BODY, 0, 0, 0);
-        let inner = append(out, body, RETURN, 0, 0, 0);
-        let next = undressed(rows, names, text, made, walk, plan, out, inner);
-        patch_end(out, body, next as u32);
-        patch_end(out, at, next as u32);
-        return next;
-    }
-    undressed(rows, names, text, made, walk, plan, out, at)
+    let wraps = plan.slot == WRAPPED;
+    let inner = open_body(out, at, wraps);
+    let next = undressed(rows, names, text, made, walk, plan, out, inner);
+    close_body(out, at, wraps, next as u32);
+    next
 }
 
 // By what becomes of the row.
@@ -218,7 +233,7 @@ fn undressed(
                 made,
                 walk,
                 plan.inner,
-                plan.spot.slot,
+                plan.slot,
                 plan.words.kind,
                 head,
                 out,
@@ -243,7 +258,7 @@ fn undressed(
                     made,
                     walk,
                     plan.inner,
-                    plan.spot.context,
+                    plan.spot,
                     frame,
                     usage,
                     property,
@@ -335,7 +350,8 @@ fn function(
         head.name as u32,
         0,
     );
-    let frame = inner.more.context.this_at;
+    let more = inner.more;
+    let frame = more.this_at();
     let top = insert_at_the_top(made, walk, slot, kind, frame, out, first);
     let next = list(rows, names, text, made, walk, inner, out, top);
     patch_end(out, at, next as u32);
@@ -426,7 +442,7 @@ fn transform_call_expression_for_super(
     made: &[u32],
     walk: Walk,
     inner: Siblings,
-    context: Context,
+    q: Place,
     frame: usize,
     usage: usize,
     property: usize,
@@ -434,9 +450,9 @@ fn transform_call_expression_for_super(
     at: usize,
 ) -> usize
     requires { ⌜ InnerPre (now rows) (now names) (now text) (now made) walk inner ⌝ }
-    requires { ⌜ (context .«this_at» < walk .cap) × ((frame < walk .cap) × ((eqb usage 3 || eqb usage 4) ≡ true)) ⌝ }
+    requires { ⌜ (placeOf q .ctx .thisAt < walk .cap) × ((frame < walk .cap) × ((eqb usage 3 || eqb usage 4) ≡ true)) ⌝ }
     requires { ⌜ at + (4 + size (inside (now rows) (now names) (now text) (now made) walk inner)) < 2 ^ 32 ⌝ }
-    ensures { λ r. ⌜ Done (now (out .entry)) at (node Member 1 0 (node Call 0 0 (node Ident 1 (number (namesOf (now (names .entry)) (now (text .entry))) (listOf (now (made .entry)) walk) usage frame property) none (inside (now (rows .entry)) (now (names .entry)) (now (text .entry)) (now (made .entry)) walk inner)) none) (thisRow (now (made .entry)) (walk .cap) (context .«takes_this») (context .«this_at»))) r (now (out .exit)) ⌝ }
+    ensures { λ r. ⌜ Done (now (out .entry)) at (node Member 1 0 (node Call 0 0 (node Ident 1 (number (namesOf (now (names .entry)) (now (text .entry))) (listOf (now (made .entry)) walk) usage frame property) none (inside (now (rows .entry)) (now (names .entry)) (now (text .entry)) (now (made .entry)) walk inner)) none) (thisRow (now (made .entry)) (walk .cap) (placeOf q .ctx .takesThis) (placeOf q .ctx .thisAt))) r (now (out .exit)) ⌝ }
 {
     let call = append(out, at, MEMBER, 1, 0, 0);
     let this = transform_member_expression_for_super(
@@ -453,5 +469,6 @@ fn transform_call_expression_for_super(
         call,
     );
     patch_end(out, at, this as u32);
-    get_this_identifier(made, walk.cap, context, out, this)
+    let spot = q.spot();
+    get_this_identifier(made, walk.cap, spot.context, out, this)
 }

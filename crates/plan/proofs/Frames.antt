@@ -1,5 +1,5 @@
 -- The frames of a row's act are low where those of its context are, and its numbers are words where the row's are. Assumes nothing.
-use mathlib.Core.Path.{refl, sym, subst}
+use mathlib.Core.Path.{_≡_, refl, ap, sym, subst, _∙_}
 use mathlib.Core.Bool.{Bool, true, false, cond, _&&_}
 use mathlib.Core.List.{List}
 use Prim.Native.Nat.{ℕ, _<_}
@@ -9,16 +9,21 @@ use Rattle.rows.specs.Words.{kindAt, attrAt, nameAt}
 use Rattle.rows.specs.Forest.{Rows}
 use Rattle.steps.specs.Mode.{Switches, bit, asyncOnly}
 use Rattle.steps.specs.Paths.{Step, Step.along, Step.inParams, Step.inBody, Step.inArrow, Step.inValue, Step.inStatic}
-use Rattle.steps.specs.Slots.{callee, dropped}
+use Rattle.steps.specs.Slots.{bodyOf, lateBody, callee, dropped}
 use Rattle.steps.specs.Super.{firstName, firstInside}
 use Rattle.steps.specs.ArrowToFunction.{toFunction?}
 use Rattle.steps.specs.Naming.{Names, namedArguments}
 use Rattle.steps.specs.Acts.{Ctx, Op, Op.row, Op.drop, Op.name, Kind, Kind.this, Kind.super, Kind.ident, Kind.access, Kind.assign, Kind.arrow, Kind.function, Kind.keyed, Kind.field, Kind.static, Kind.target, Kind.other, kindOf, reads?, sets?, actOf, act}
 use Rattle.steps.specs.Context.{Spot, enter, lateC, actC}
+use Rattle.steps.proofs.Fewer.{isFunction, slot-one, slot-more}
 use Rattle.below.specs.Below.{children}
-use Rattle.acts.specs.Deciding.{Does}
-use Rattle.acts.specs.declared.act.Act.{Act as Acted}
-use Rattle.plan.specs.Frames.{FramesBelow, OpLow, ActLow, Small}
+use Rattle.passes.specs.View.{opOf}
+use Rattle.acts.specs.Deciding.{spotOf, Does}
+use Rattle.acts.specs.declared.act.Act.{Act as Decided}
+use Rattle.plan.specs.declared.Act.{Act as Acted}
+use Rattle.plan.specs.Frames.{FramesBelow, OpLow, Small}
+use Rattle.plan.specs.Placing.{placeOf}
+use Rattle.plan.specs.Taking.{Takes, ActLow, Placeable}
 
 -- the frame that a step opens is below cap
 unfoldable pub StepBelow : ℕ → Step → Type 0
@@ -41,6 +46,15 @@ enter-below w cap c h (inBody r a m) t = record { this = t; super = cond-below m
 enter-below w cap c h (inArrow a) t = record { this = h .this; super = h .super; arguments = h .arguments }
 enter-below w cap c h (inValue r) t = record { this = h .this; super = h .super; arguments = h .arguments }
 enter-below w cap c h (inStatic r) t = record { this = t; super = t; arguments = h .arguments }
+
+-- a context that a Function at row r opens
+pub params-below : (w : Switches) {cap : ℕ} {c x : Ctx} (r a : ℕ) (m : Bool) → x ≡ enter w (inParams r a m) c → r < cap → FramesBelow cap c → FramesBelow cap x
+unfolding StepBelow
+params-below w {cap} {c} {x} r a m e l h = subst (FramesBelow cap) (sym e) (enter-below w cap c h (inParams r a m) l)
+
+pub body-below : (w : Switches) {cap : ℕ} {c x : Ctx} (r a : ℕ) (m : Bool) → x ≡ enter w (inBody r a m) c → r < cap → FramesBelow cap c → FramesBelow cap x
+unfolding StepBelow
+body-below w {cap} {c} {x} r a m e l h = subst (FramesBelow cap) (sym e) (enter-below w cap c h (inBody r a m) l)
 
 pick : (P : Op → Type 0) (x : Bool) (s t : Op) → P s → P t → P (cond x s t)
 pick P true s t h k = h
@@ -120,16 +134,60 @@ module _ (N : Names) (w : Switches) (l : Bool) (c : Ctx) (sl o k a n : ℕ) (i :
       op-low = op-of (kindOf k)
 
       -- an act of the code that is the steps' act
-      pub act-low : (r : Acted) → Does w c (act N w l c sl o k a n i) r → ActLow cap r
+      pub act-low : (r : Acted) → Takes w c (act N w l c sl o k a n i) r → ActLow cap r
       act-low r d = record {
         op = subst (OpLow cap) (sym (d .becomes)) op-low;
         one = subst (λ (s : Spot). FramesBelow cap (s .ctx)) (sym (d .first)) one-below;
         more = subst (λ (s : Spot). FramesBelow cap (s .ctx)) (sym (d .later)) more-below;
       }
 
--- the same for what `row_act` answers
+-- every slot of an act has a number
+one-slot-low : (N : Names) (w : Switches) (l : Bool) (c : Ctx) (sl o k a n : ℕ) (i : Rows) → act N w l c sl o k a n i .one .slot < 8
+unfolding act
+one-slot-low N w l c sl o k a n i = slot-one N w l c sl o k a n i (λ (s : ℕ). s < 8) (omega arith) (omega arith) (omega arith) (omega arith) (omega arith) (kindOf k)
+
+late-slot-low : (l : Bool) → cond l lateBody bodyOf < 8
+late-slot-low true = omega arith
+late-slot-low false = omega arith
+
+more-slot-low : (N : Names) (w : Switches) (l : Bool) (c : Ctx) (sl o k a n : ℕ) (i : Rows) → act N w l c sl o k a n i .more .slot < 8
+unfolding act actOf isFunction
+more-slot-low N w l c sl o k a n i = go (kindOf k)
+  where
+    else : (K : Kind) → isFunction K ≡ false → actOf N w l c sl o K k a n i .more .slot < 8
+    else K e = slot-more N w l c sl o k a n i (λ (s : ℕ). s < 8) (omega arith) (omega arith) (omega arith) K e
+
+    go : (K : Kind) → actOf N w l c sl o K k a n i .more .slot < 8
+    go this = else this refl
+    go super = else super refl
+    go ident = else ident refl
+    go access = else access refl
+    go Kind.call = else Kind.call refl
+    go assign = else assign refl
+    go arrow = else arrow refl
+    go function = late-slot-low l
+    go keyed = else keyed refl
+    go field = else field refl
+    go static = else static refl
+    go target = else target refl
+    go other = else other refl
+
+-- the act that is decided in a spot has spots with numbers, and is the steps' act where it is handed on
+module _ (N : Names) (w : Switches) (l : Bool) (c : Ctx) (sl o k a n : ℕ) (i : Rows) {r : Decided} (d : Does w c (act N w l c sl o k a n i) r) where
+  pub placeable : o < 16384 → FramesBelow 16384 c → Placeable r
+  placeable low h = record {
+    one = subst (λ (s : Spot). FramesBelow 16384 (s .ctx)) (sym (d .first)) (one-below N w l c sl o k a n i 16384 low h);
+    one-slot = subst (λ (s : Spot). s .slot < 8) (sym (d .first)) (one-slot-low N w l c sl o k a n i);
+    more = subst (λ (s : Spot). FramesBelow 16384 (s .ctx)) (sym (d .later)) (more-below N w l c sl o k a n i 16384 low h);
+    more-slot = subst (λ (s : Spot). s .slot < 8) (sym (d .later)) (more-slot-low N w l c sl o k a n i);
+  }
+
+  pub handed : {s : Acted} → (s .op ≡ r .op) × ((placeOf (s .one) ≡ spotOf (r .one)) × (placeOf (s .more) ≡ spotOf (r .more))) → Takes w c (act N w l c sl o k a n i) s
+  handed {s} e = record { becomes = ap opOf (e .0) ∙ d .becomes; first = e .1 .0 ∙ d .first; later = e .1 .1 ∙ d .later }
+
+-- the same where what `is_late` says is known
 pub row-act-low : (N : Names) (w : Switches) (q : Spot) (ws : List ℕ) (i cap : ℕ) → i < cap → FramesBelow cap (q .ctx) → Small ws i → (r : Acted)
-    → Does w (q .ctx) (actC N w q i (kindAt ws i) (attrAt ws i) (nameAt ws i) (children ws i)) r → ActLow cap r
+    → Takes w (q .ctx) (actC N w q i (kindAt ws i) (attrAt ws i) (nameAt ws i) (children ws i)) r → ActLow cap r
 unfolding actC
 row-act-low N w q ws i cap low h s r d =
     act-low N w (lateC N w q i (kindAt ws i) (attrAt ws i) (children ws i)) (q .ctx) (q .slot) i (kindAt ws i) (attrAt ws i) (nameAt ws i) (children ws i) cap low h (s .kind) (s .attr) (s .name) (s .deep) r d

@@ -1,22 +1,22 @@
 -- A Super that stays, row by row. Assumes nothing.
 use mathlib.Core.Path.{_≡_, refl, ap, sym, subst, _∙_}
-use mathlib.Core.Bool.{Bool, true, false, cond, not, _&&_, _||_, true≢false}
+use mathlib.Core.Bool.{Bool, true, false, not, _&&_, _||_, true≢false}
 use mathlib.Core.List.{List}
-use Prim.Native.Nat.{ℕ, zero, suc, _+_, _*_, _-_, _<_, _≤_}
+use Prim.Native.Nat.{ℕ, zero, suc, _+_, _-_, _<_, _≤_}
 use native.Mathlib.Omega.{arith}
 use borrow.Author.Tests.{ltb-true, ltb-false, ne-eqb, eq-eqb}
 use lib.Dec.{eqb, ltb}
 use Rattle.rows.specs.Kinds.{Super, Function}
 use Rattle.rows.specs.Words.{kindAt, attrAt, nameAt, endAt}
-use Rattle.rows.specs.Forest.{Rows, Rows.none, Rows.node, size, rowsAt}
+use Rattle.rows.specs.Forest.{Rows, Rows.none, size, rowsAt}
 use Rattle.rows.specs.Nested.{Nested, Range}
 use Rattle.rows.proofs.Walking.{rows-none, inner, later, rows-step}
 use Rattle.steps.specs.Mode.{Switches, bit}
 use Rattle.steps.specs.Naming.{Names}
 use Rattle.steps.specs.Slots.{free, ofMethod, dropped}
 use Rattle.steps.specs.Paths.{Step.inParams, Step.inBody}
-use Rattle.steps.specs.Acts.{Ctx, Act, act, by}
-use Rattle.steps.specs.Context.{Spot, spot, into, leavesC, lateC}
+use Rattle.steps.specs.Acts.{Act, act, by}
+use Rattle.steps.specs.Context.{Spot, into, leavesC, lateC}
 use Rattle.below.specs.Below.{children}
 
 module _ (ws : List ℕ) (n : ℕ) (good : Nested ws n) where
@@ -74,6 +74,18 @@ module _ (ws : List ℕ) (n : ℕ) (good : Nested ws n) where
     pub function-outside : kindAt ws i ≡ Function → inside ≡ false
     function-outside h = ap (λ (b : Bool). not b && leavesC N w (into w q (actHere .one)) (into w q (actHere .more)) (i + 1) (children ws i)) (eq-eqb (kindAt ws i) Function h)
 
+    -- .. nor is anything where the code does not go down: a Function, or no child
+    pub not-down : (k x : ℕ) → k ≡ kindAt ws i → x ≡ endAt ws i → (not (eqb k Function) && ltb (i + 1) x) ≡ false → inside ≡ false
+    unfolding leavesC
+    not-down k x p y h = go (eqb (kindAt ws i) Function) refl (subst (λ (m : ℕ). (not (eqb m Function) && ltb (i + 1) x) ≡ false) p h)
+      where
+        go : (b : Bool) → eqb (kindAt ws i) Function ≡ b → (not (eqb (kindAt ws i) Function) && ltb (i + 1) x) ≡ false → inside ≡ false
+        go true e g = rw e
+        go false e g =
+            let l : ltb (i + 1) x ≡ false = rw e at g in
+            let none : x ≤ i + 1 = ltb-false (i + 1) x l in
+            rw (e, rows-none ws (i + 1) (endAt ws i) (subst (λ (m : ℕ). m ≤ i + 1) y none)) refl
+
     pub children-say : (kindAt ws i ≡ Function → ⊥) → (r : Bool) (one more : Spot) (x : ℕ) → one ≡ into w q (actHere .one) → more ≡ into w q (actHere .more) → x ≡ endAt ws i
         → r ≡ leavesC N w one more (i + 1) (rowsAt ws (i + 1) x) → inside ≡ r
     children-say h r one more x f g y z =
@@ -114,6 +126,13 @@ module _ (ws : List ℕ) (n : ℕ) (good : Nested ws n) (i e : ℕ) (R : Range w
     start = let a = ahead in let s = L .start in omega arith;
   }
 
+-- by the values that the code has: a Super that stays, and a row that is gone down into
+pub here-as : {k k' s s' : ℕ} → k ≡ k' → s ≡ s' → (eqb k' Super && not (eqb s' dropped)) ≡ (eqb k Super && not (eqb s dropped))
+here-as p q = rw (p, q) refl
+
+pub no-function : (k f x : ℕ) → (not (eqb k Function) && ltb f x) ≡ true → k ≡ Function → ⊥
+no-function k f x h e = true≢false (sym (subst (λ (m : ℕ). (not (eqb m Function) && ltb f x) ≡ true) e h))
+
 -- a constructor, by the values that the code has
 module _ (N : Names) (w : Switches) (q : Spot) (o k a : ℕ) (i : Rows) (k' a' : ℕ) (b : Bool) (p : k' ≡ k) (r : a' ≡ a) (s : b ≡ bit 4 a') where
   tested : (eqb k' Function && b) ≡ (eqb k Function && bit 4 a)
@@ -144,10 +163,9 @@ module _ (N : Names) (w : Switches) (q : Spot) (o k a : ℕ) (i : Rows) (k' a' :
       go true h = refl
       go false h = absurd (true≢false h)
 
--- what a walk over equal places and an equal end says
-pub leaves-as : (N : Names) (w : Switches) (ws : List ℕ) (i x e : ℕ) (c c' d d' : Ctx) (r : Bool) → c ≡ c' → d ≡ d' → x ≡ e
-    → r ≡ leavesC N w (spot c free) (spot d free) (i + 1) (rowsAt ws (i + 1) x) → r ≡ leavesC N w (spot c' free) (spot d' free) (i + 1) (rowsAt ws (i + 1) e)
-leaves-as N w ws i x e c c' d d' r p q y h =
-    h ∙ ap (λ (z : Ctx). leavesC N w (spot z free) (spot d free) (i + 1) (rowsAt ws (i + 1) x)) p
-    ∙ ap (λ (z : Ctx). leavesC N w (spot c' free) (spot z free) (i + 1) (rowsAt ws (i + 1) x)) q
-    ∙ ap (λ (z : ℕ). leavesC N w (spot c' free) (spot d' free) (i + 1) (rowsAt ws (i + 1) z)) y
+-- what the walk of a Function's Params and Body says, by the places that the code has
+pub leaves-from : (N : Names) (w : Switches) (ws : List ℕ) (i a : ℕ) {s p one more : Spot} {x : ℕ} {r : Bool} → s ≡ p
+    → one ≡ into w s (by (inParams i a (eqb (s .slot) ofMethod)) free) → more ≡ into w s (by (inBody i a (eqb (s .slot) ofMethod)) free) → x ≡ endAt ws i
+    → r ≡ leavesC N w one more (i + 1) (rowsAt ws (i + 1) x)
+    → r ≡ leavesC N w (into w p (by (inParams i a (eqb (p .slot) ofMethod)) free)) (into w p (by (inBody i a (eqb (p .slot) ofMethod)) free)) (i + 1) (children ws i)
+leaves-from N w ws i a {s} {p} {one} {more} {x} {r} e f g y h = h ∙ rw (f, g, y, e) refl

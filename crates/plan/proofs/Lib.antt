@@ -1,2 +1,5 @@
 pub mod Leaving
 pub mod Frames
+pub mod Staying
+pub mod Acted
+pub mod Placing

@@ -8,9 +8,6 @@ use Rattle.rows.specs.Words.{kindAt, attrAt, nameAt}
 use Rattle.steps.specs.Super.{firstName, firstInside}
 use Rattle.steps.specs.Acts.{Ctx, Op, Op.row, Op.drop, Op.name, Op.call}
 use Rattle.below.specs.Below.{children}
-use Rattle.passes.specs.View.{opOf}
-use Rattle.acts.specs.View.{contextOf}
-use Rattle.acts.specs.declared.act.Act.{Act}
 
 -- the frames of a context are below cap
 pub record FramesBelow (cap : ℕ) (c : Ctx) : Type 0 where
@@ -24,12 +21,6 @@ OpLow cap (row k a n) = (k < 4294967296) × ((a < 4294967296) × (n < 4294967296
 OpLow cap drop = Unit {0}
 OpLow cap (name u f) = (0 < u) × ((u ≤ 2) × (f < cap))
 OpLow cap (call u f x t) = ((eqb u 3 || eqb u 4) ≡ true) × ((f < cap) × (x < 4294967296))
-
--- an act as the code has it, with the frames of its children's places
-pub record ActLow (cap : ℕ) (r : Act) : Type 0 where
-  pub op : OpLow cap (opOf (r .op))
-  pub one : FramesBelow cap (contextOf (r .one .context))
-  pub more : FramesBelow cap (contextOf (r .more .context))
 
 -- the words of row i that an act hands on are below 2^32
 pub record Small (ws : List ℕ) (i : ℕ) : Type 0 where

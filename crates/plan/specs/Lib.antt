@@ -1,2 +1,5 @@
 pub mod Ranged
 pub mod Frames
+pub mod Staying
+pub mod Placing
+pub mod Taking

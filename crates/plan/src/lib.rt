@@ -1,8 +1,9 @@
 // What is done with row i of a table, read from its bytes.
-mod late;
+pub mod late;
+pub mod place;
+pub mod stays;
 
-use acts::act::Act;
-use acts::act::Spot;
+use acts::act::Act as Decided;
 use acts::act::Words;
 use acts::act::decide;
 use acts::switches::Switches;
@@ -10,7 +11,9 @@ use below::attr_at;
 use below::kind_at;
 use below::look;
 use below::name_at;
-use late::is_late;
+use passes::Becomes;
+use place::Place;
+use place::placed;
 use rows::kinds::IDENT;
 use spelling::is_arguments;
 ghost use mathlib.Core.Path.{_≡_};
@@ -21,11 +24,19 @@ ghost use Rattle.rows.specs.Names.{isArguments};
 ghost use Rattle.spelling.specs.Spelling.{GivenNames};
 ghost use Rattle.steps.specs.Outcome.{namesOf};
 ghost use Rattle.steps.specs.Acts as steps;
-ghost use Rattle.steps.specs.Context.{actC};
 ghost use Rattle.below.specs.Below.{At, children};
-ghost use Rattle.acts.specs.View.{switchesOf, contextOf};
-ghost use Rattle.acts.specs.Deciding.{spotOf, Does};
+ghost use Rattle.acts.specs.View.{switchesOf};
+ghost use Rattle.acts.specs.Deciding.{spotOf};
 ghost use Rattle.plan.specs.Frames.{Small};
+ghost use Rattle.plan.specs.Placing.{placeOf};
+ghost use Rattle.plan.specs.Taking.{Takes, Placeable};
+
+// What becomes of a row, and where its first child and its later ones are.
+pub struct Act {
+    pub op: Becomes,
+    pub one: Place,
+    pub more: Place,
+}
 
 // Of an Ident, whether its name is `arguments`.
 fn named_arguments(names: &[u8], text: &[u8], kind: usize, name: usize) -> bool
@@ -38,20 +49,57 @@ fn named_arguments(names: &[u8], text: &[u8], kind: usize, name: usize) -> bool
     false
 }
 
+// The same, copied part by part: a copy of the whole would wait for the parts, which were just written.
+fn part_by_part(op: Becomes) -> Becomes
+    ensures { λ r. ⌜ r ≡ op ⌝ }
+{
+    match op {
+        Becomes::Row { kind, attr, name } => Becomes::Row { kind, attr, name },
+        Becomes::Drop => Becomes::Drop,
+        Becomes::Name { usage, frame } => Becomes::Name { usage, frame },
+        Becomes::Call {
+            usage,
+            frame,
+            property,
+            called,
+        } => Becomes::Call {
+            usage,
+            frame,
+            property,
+            called,
+        },
+    }
+}
+
+// An act, and where the row's children are, in numbers.
+fn hand_on(act: Decided) -> Act
+    requires { ⌜ Placeable act ⌝ }
+    ensures { λ r. ⌜ (r .op ≡ act .op) × ((placeOf (r .one) ≡ spotOf (act .one)) × (placeOf (r .more) ≡ spotOf (act .more))) ⌝ }
+{
+    let op = act.op;
+    let one = act.one;
+    let more = act.more;
+    Act {
+        op: part_by_part(op),
+        one: placed(one),
+        more: placed(more),
+    }
+}
+
 // `late`: of a constructor, a Super is left in place.
 pub fn act_at(
     rows: &[u8],
     names: &[u8],
     text: &[u8],
     switches: Switches,
-    q: Spot,
+    q: Place,
     i: usize,
     late: bool,
 ) -> Act
     requires { ⌜ At (now rows) (rowsIn (now rows)) i ⌝ }
     requires { ⌜ GivenNames (now names) (now text) ⌝ }
-    ensures { λ r. ⌜ Does (switchesOf switches) (contextOf (q .context))
-        (steps.act (namesOf (now (names .entry)) (now (text .entry))) (switchesOf switches) late (contextOf (q .context)) (q .slot) i
+    ensures { λ r. ⌜ Takes (switchesOf switches) (placeOf q .ctx)
+        (steps.act (namesOf (now (names .entry)) (now (text .entry))) (switchesOf switches) late (placeOf q .ctx) (placeOf q .slot) i
         (kindAt (words (now (rows .entry))) i) (attrAt (words (now (rows .entry))) i) (nameAt (words (now (rows .entry))) i) (children (words (now (rows .entry))) i)) r ⌝ }
     ensures { λ _. ⌜ Small (words (now (rows .entry))) i ⌝ }
 {
@@ -62,18 +110,6 @@ pub fn act_at(
     };
     let below = look(rows, i);
     let arguments = named_arguments(names, text, row.kind, row.name);
-    decide(q, row, switches, i, late, below, arguments)
-}
-
-// The act of row i as both walks meet it.
-pub fn row_act(rows: &[u8], names: &[u8], text: &[u8], switches: Switches, q: Spot, i: usize) -> Act
-    requires { ⌜ At (now rows) (rowsIn (now rows)) i ⌝ }
-    requires { ⌜ GivenNames (now names) (now text) ⌝ }
-    ensures { λ r. ⌜ Does (switchesOf switches) (contextOf (q .context))
-        (actC (namesOf (now (names .entry)) (now (text .entry))) (switchesOf switches) (spotOf q) i
-        (kindAt (words (now (rows .entry))) i) (attrAt (words (now (rows .entry))) i) (nameAt (words (now (rows .entry))) i) (children (words (now (rows .entry))) i)) r ⌝ }
-    ensures { λ _. ⌜ Small (words (now (rows .entry))) i ⌝ }
-{
-    let late = is_late(rows, names, text, switches, q, i);
-    act_at(rows, names, text, switches, q, i, late)
+    let spot = q.spot();
+    hand_on(decide(spot, row, switches, i, late, below, arguments))
 }

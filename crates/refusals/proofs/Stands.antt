@@ -1,10 +1,10 @@
 -- Refusal 6: what rows are told, by numbers, and the first Super that its owner does not allow. Assumes nothing.
 use mathlib.Core.Path.{_≡_, refl, ap, sym, _∙_}
 use mathlib.Core.List.{List}
-use Prim.Native.Nat.{ℕ, zero, suc, _+_, _*_, _%_, _<_}
+use Prim.Native.Nat.{ℕ, zero, suc, _+_, _*_, _%_, _<_, _≤_}
 use mathlib.Core.Bool.{Bool, true, false, cond, not, _&&_, _||_}
 use lib.Dec.{eqb}
-use lib.ListN.{getD}
+use lib.ListN.{getD, replicate, length-replicate}
 use native.Mathlib.Omega.{arith}
 use borrow.Author.Tests.{ne-eqb}
 use Rattle.rows.specs.Kinds.{Program, Super, Call, Function, Field, StaticBlock}
@@ -13,10 +13,11 @@ use Rattle.rows.specs.Told.{toldBy}
 use Rattle.rows.specs.First.{first}
 use Rattle.rows.specs.Forest.{rowsAt}
 use Rattle.rows.proofs.Soundness.{words-long}
+use Rattle.rows.proofs.Telling.{told-zero}
 use Rattle.steps.specs.Mode.{bit}
 use Rattle.steps.specs.Refusals.{Keeper, Keeper.plain, Keeper.builder, Keeper.method, Keeper.member, methodHolder, allows, seek, sixes, outer}
 use Rattle.steps.proofs.Told.{tells, by-told, seek-as}
-use Rattle.refusals.specs.Given.{GivenRows}
+use Rattle.refusals.specs.Given.{GivenRows, Clear}
 use Rattle.refusals.specs.Standing.{keeperNo, keeperAt, standNo, standAt, ownerFor, standFor, firstThen, standTold, superBad}
 
 -- a Stand's number stands for it
@@ -110,6 +111,20 @@ toldFrom ws v p pos c = standTold v (kindAt ws p) (attrAt ws p) pos
 -- what row j is told
 abbrev pub standOf : List ℕ → ℕ → ℕ
 standOf ws j = toldBy ws (toldFrom ws) 0 j j
+
+-- an entry of an array of zeros is 0
+zero-at : (m j : ℕ) → _≡_ {A = ℕ} (getD (replicate m 0) j 0) 0
+zero-at zero j = refl
+zero-at (suc m) zero = refl
+zero-at (suc m) (suc j) = zero-at m j
+
+-- so such an array of m entries serves n rows, n at most m
+pub clear : (m n : ℕ) → n ≤ m → Clear (replicate m 0) n
+clear m n h = record { room = omega (arith, length-replicate {A = ℕ} m 0); zeros = zero-at m }
+
+-- it holds what rows have been told before row 0 is met
+pub clear-told : (ws R : List ℕ) (n : ℕ) → Clear R n → (j : ℕ) → getD R j 0 ≡ toldBy ws (toldFrom ws) 0 0 j
+clear-told ws R n c j = c .zeros j ∙ told-zero ws (toldFrom ws) 0 j
 
 -- the test of row i, of the words and the array that the code read
 pub bad-same : (ws R : List ℕ) (i k : ℕ) (r : Bool) → ((j : ℕ) → getD R j 0 ≡ toldBy ws (toldFrom ws) 0 i j) → k ≡ kindAt ws i → r ≡ superBad (getD R i 0) k → superBad (standOf ws i) (kindAt ws i) ≡ r

@@ -112,19 +112,20 @@ module _ (ws : List ℕ) (b : Bool) where
   abbrev pub test : ℕ → Bool
   test j = fieldBad b j (kindAt ws j) (attrAt ws j) (nameAt ws j) (endAt ws j) (drop (4 * (j + 1)) ws)
 
-  -- the visit from the last row on, before row i: the next hits of the rows that were visited, and the first Field among them
-  pub record Since (n : ℕ) (next : List ℕ) (low : ℕ) (found : Found) (i : ℕ) : Type 0 where
+  -- the visit from the last row on, before row i, with an array of m entries: the next hits of the rows that were visited, and the first Field among them
+  pub record Since (n m : ℕ) (next : List ℕ) (low : ℕ) (found : Found) (i : ℕ) : Type 0 where
     pub left : i ≤ n
-    pub size : length next ≡ 16384
+    pub size : length next ≡ m
+    pub room : n ≤ m
     pub lowest : low ≡ nextHit ws b (n - i) i
     pub known : (j : ℕ) → i ≤ j → j < n → getD next j 0 ≡ nextHit ws b (n - j) j
     pub same : found ≡ first test (n - i) i
 
-  pub since-start : (n : ℕ) (next : List ℕ) → length next ≡ 16384 → Since n next n Nothing n
+  pub since-start : (n : ℕ) (next : List ℕ) → n ≤ length next → Since n (length next) next n Nothing n
   unfolding nextHit first
-  since-start n next l = let z : n - n ≡ 0 = omega arith in record { left = omega arith; size = l; lowest = rw z; known = λ j x y. absurd (omega arith); same = rw z }
+  since-start n next l = let z : n - n ≡ 0 = omega arith in record { left = omega arith; size = refl; room = l; lowest = rw z; known = λ j x y. absurd (omega arith); same = rw z }
 
-  module _ (n : ℕ) (next : List ℕ) (low : ℕ) (found : Found) (i : ℕ) (h : 0 < i) (s : Since n next low found i) where
+  module _ (n m : ℕ) (next : List ℕ) (low : ℕ) (found : Found) (i : ℕ) (h : 0 < i) (s : Since n m next low found i) where
     abbrev j : ℕ
     j = i - 1
 
@@ -138,10 +139,10 @@ module _ (ws : List ℕ) (b : Bool) where
     unfolding nextHit
     low-next low′ q = q ∙ rw (count, after) (ap (cond (hit b (kindAt ws j)) j) (s .lowest))
 
-    known-next : (low′ : ℕ) → low′ ≡ nextHit ws b (n - j) j → j < 16384 → (q : ℕ) → j ≤ q → q < n → getD (set next j low′) q 0 ≡ nextHit ws b (n - q) q
-    known-next low′ e few q x y =
+    known-next : (low′ : ℕ) → low′ ≡ nextHit ws b (n - j) j → (q : ℕ) → j ≤ q → q < n → getD (set next j low′) q 0 ≡ nextHit ws b (n - q) q
+    known-next low′ e q x y =
         ⊎-elim
-        (λ z. subst (λ (p : ℕ). getD (set next j low′) p 0 ≡ nextHit ws b (n - p) p) z (getD-set-same next j low′ 0 (omega (arith, s .size)) ∙ e))
+        (λ z. subst (λ (p : ℕ). getD (set next j low′) p 0 ≡ nextHit ws b (n - p) p) z (getD-set-same next j low′ 0 (omega (arith, s .left, s .size, s .room)) ∙ e))
         (λ z. getD-set-other next j q low′ 0 (λ u. omega arith) ∙ s .known q (omega arith) y)
         (eq-or-lt-of-le x)
 
@@ -149,22 +150,23 @@ module _ (ws : List ℕ) (b : Bool) where
     unfolding first
     first-next = ap (λ (x : ℕ). first test x j) count ∙ ap (λ (x : ℕ). cond (test j) (At j) (first test (n - i) x)) after
 
-    pub since-next : Nested ws n → length ws ≡ 4 * n → n ≤ 16384 → (low′ : ℕ) → low′ ≡ cond (hit b (kindAt ws j)) j low → (here : Bool) → here ≡ holdsAt ws (λ p. getD (set next j low′) p 0) j
-        → (found′ : Found) → found′ ≡ cond here (At j) found → Since n (set next j low′) low′ found′ j
-    since-next good long few low′ q here r found′ f =
+    pub since-next : Nested ws n → length ws ≡ 4 * n → (low′ : ℕ) → low′ ≡ cond (hit b (kindAt ws j)) j low → (here : Bool) → here ≡ holdsAt ws (λ p. getD (set next j low′) p 0) j
+        → (found′ : Found) → found′ ≡ cond here (At j) found → Since n m (set next j low′) low′ found′ j
+    since-next good long low′ q here r found′ f =
         let e = low-next low′ q in
-        let k = known-next low′ e (omega (arith, s .left)) in
+        let k = known-next low′ e in
         let t : here ≡ test j = r ∙ holds-is n j good (omega (arith, s .left)) long (λ p. getD (set next j low′) p 0) (λ p x y. k p (omega arith) y) (nameAt ws j) in
         record {
           left = omega (arith, s .left);
           size = length-set next j low′ ∙ s .size;
+          room = s .room;
           lowest = e;
           known = k;
           same = f ∙ ap (λ (x : Bool). cond x (At j) found) t ∙ sym (first-next ∙ ap (cond (test j) (At j)) (sym (s .same)));
         }
 
-  pub since-end : (n : ℕ) (next : List ℕ) (low : ℕ) (found : Found) (i : ℕ) → Since n next low found i → i ≤ 0 → found ≡ first test n 0
-  since-end n next low found i s h =
+  pub since-end : (n m : ℕ) (next : List ℕ) (low : ℕ) (found : Found) (i : ℕ) → Since n m next low found i → i ≤ 0 → found ≡ first test n 0
+  since-end n m next low found i s h =
       let z : i ≡ 0 = omega arith in
       let m : n - i ≡ n = omega arith in
       s .same ∙ ap (λ (x : ℕ). first test x i) m ∙ ap (first test n) z

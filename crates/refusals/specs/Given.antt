@@ -1,8 +1,8 @@
--- What the code of this crate needs to know of the rows lent. Where `rows::check` answers Sound all of it holds (proofs/Giving.antt). Assumes nothing.
+-- What the code of this crate needs to know of the rows lent, and of an array that it makes. Where `rows::check` answers Sound all of the former holds (proofs/Giving.antt). Assumes nothing.
 use Prim.Native.Nat.{ℕ, _*_, _≤_, _<_}
 use mathlib.Core.Path.{_≡_}
 use mathlib.Core.List.{List}
-use lib.ListN.{length}
+use lib.ListN.{length, getD}
 use Rattle.rows.specs.Words.{words, endAt}
 use Rattle.rows.specs.Forest.{flat, rowsAt}
 use Rattle.rows.specs.Nested.{Nested}
@@ -15,3 +15,8 @@ pub record GivenRows (rows : List ℕ) (n : ℕ) : Type 0 where
   pub ends : endAt (words rows) 0 ≡ n
   pub nested : Nested (words rows) n
   pub same : flat 0 (rowsAt (words rows) 0 n) ≡ words rows
+
+-- an array with room for n entries, all 0
+pub record Clear (entries : List ℕ) (n : ℕ) : Type 0 where
+  pub room : n ≤ length entries
+  pub zeros : (j : ℕ) → getD entries j 0 ≡ 0

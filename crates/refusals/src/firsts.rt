@@ -1,4 +1,5 @@
-// Refusals 6, 7 and 8, each by one pass over the rows of a table that `rows::check` accepts.
+// Refusals 6, 7 and 8, each by one pass over the rows of a table that `rows::check` accepts; 6 and 7
+// with an array that is as large as the table needs.
 use crate::standing::has;
 use crate::standing::stand;
 use crate::standing::super_bad;
@@ -21,16 +22,15 @@ ghost use Rattle.rows.specs.Forest.{rowsAt};
 ghost use Rattle.rows.specs.declared.Found.the-variants.{At};
 ghost use Rattle.steps.specs.Refusals.{seek, sixes, outer};
 ghost use Rattle.spelling.specs.Spelling.{GivenNames};
-ghost use Rattle.refusals.specs.Given.{GivenRows};
+ghost use Rattle.refusals.specs.Given.{GivenRows, Clear};
 ghost use Rattle.refusals.specs.Hits.{valueFrom, holdsAt, fieldRule};
 ghost use Rattle.refusals.specs.Refused.{bindsArguments, nameRule};
 
-// Refusal 6: the first Super that its owner does not allow.
-pub fn first_super(rows: &[u8], n: usize) -> Found
-    requires { ⌜ GivenRows (now rows) n ⌝ }
+// The first Super that its owner does not allow, with an array of zeros that has room for n entries.
+fn super_in(rows: &[u8], n: usize, stands: &mut [u16]) -> Found
+    requires { ⌜ GivenRows (now rows) n × Clear (now stands) n ⌝ }
     ensures { λ r. ⌜ r ≡ seek sixes outer outer 0 (rowsAt (words (now (rows .entry))) 0 n) ⌝ }
 {
-    let mut stands = [0u16; 16384];
     let mut i: usize = 0;
     while i < n {
         let k = cell(rows, 4 * i);
@@ -42,10 +42,51 @@ pub fn first_super(rows: &[u8], n: usize) -> Found
         }
         let one = stand(true, v, k, a);
         let more = stand(false, v, k, a);
-        tell(rows, &mut stands, one, more, i + 1, e);
+        tell(rows, stands, one, more, i + 1, e);
         i += 1;
     }
     Found::Nothing
+}
+
+// The same with an array of its own, for a table of at most 64 rows,
+fn super_small(rows: &[u8], n: usize) -> Found
+    requires { ⌜ GivenRows (now rows) n × (n ≤ 64) ⌝ }
+    ensures { λ r. ⌜ r ≡ seek sixes outer outer 0 (rowsAt (words (now (rows .entry))) 0 n) ⌝ }
+{
+    let mut stands = [0u16; 64];
+    super_in(rows, n, &mut stands)
+}
+
+// of at most 1,024,
+fn super_middle(rows: &[u8], n: usize) -> Found
+    requires { ⌜ GivenRows (now rows) n × (n ≤ 1024) ⌝ }
+    ensures { λ r. ⌜ r ≡ seek sixes outer outer 0 (rowsAt (words (now (rows .entry))) 0 n) ⌝ }
+{
+    let mut stands = [0u16; 1024];
+    super_in(rows, n, &mut stands)
+}
+
+// and of at most 16,384.
+fn super_large(rows: &[u8], n: usize) -> Found
+    requires { ⌜ GivenRows (now rows) n ⌝ }
+    ensures { λ r. ⌜ r ≡ seek sixes outer outer 0 (rowsAt (words (now (rows .entry))) 0 n) ⌝ }
+{
+    let mut stands = [0u16; 16384];
+    super_in(rows, n, &mut stands)
+}
+
+// Refusal 6: the first Super that its owner does not allow.
+pub fn first_super(rows: &[u8], n: usize) -> Found
+    requires { ⌜ GivenRows (now rows) n ⌝ }
+    ensures { λ r. ⌜ r ≡ seek sixes outer outer 0 (rowsAt (words (now (rows .entry))) 0 n) ⌝ }
+{
+    if n <= 64 {
+        return super_small(rows, n);
+    }
+    if n <= 1024 {
+        return super_middle(rows, n);
+    }
+    super_large(rows, n)
 }
 
 // The first row of the value of a Field i of attr a and end e; e where it has none.
@@ -72,9 +113,9 @@ fn wide(x: u16) -> usize
 }
 
 // Whether row i is a Field whose value reaches the next hit from its first row on.
-fn field_holds(rows: &[u8], next: &[u16; 16384], i: usize) -> bool
+fn field_holds(rows: &[u8], next: &[u16], i: usize) -> bool
     requires { ⌜ (i < endAt (words (now rows)) i) × ((endAt (words (now rows)) i ≤ 16384) × (16 * endAt (words (now rows)) i ≤ length (now rows))) ⌝ }
-    requires { ⌜ length (now next) ≡ 16384 ⌝ }
+    requires { ⌜ endAt (words (now rows)) i ≤ length (now next) ⌝ }
     ensures { λ r. ⌜ r ≡ holdsAt (words (now (rows .entry))) (λ j. getD (now (next .entry)) j 0) i ⌝ }
 {
     if cell(rows, 4 * i) != FIELD {
@@ -106,15 +147,14 @@ fn found_at(here: bool, i: usize, later: Found) -> Found
     later
 }
 
-// Refusal 7: the first Field whose value holds a Super, or with `arrows` an Arrow. The rows are
-// visited from the last, so that the next such row is known from each row on, and the lowest Field
-// that reaches one stays. (The outermost Field of the first such row would not do: a Field's key
-// may hold a Field of its own.)
-pub fn first_field(rows: &[u8], n: usize, arrows: bool) -> Found
-    requires { ⌜ GivenRows (now rows) n ⌝ }
+// The first Field whose value holds a Super, or with `arrows` an Arrow, with an array that has room
+// for n entries. The rows are visited from the last, so that the next such row is known from each row
+// on, and the lowest Field that reaches one stays. (The outermost Field of the first such row would
+// not do: a Field's key may hold a Field of its own.)
+fn field_in(rows: &[u8], n: usize, arrows: bool, next: &mut [u16]) -> Found
+    requires { ⌜ GivenRows (now rows) n × (n ≤ length (now next)) ⌝ }
     ensures { λ r. ⌜ r ≡ seek (fieldRule arrows) tt tt 0 (rowsAt (words (now (rows .entry))) 0 n) ⌝ }
 {
-    let mut next = [0u16; 16384];
     let mut hit = n;
     let mut found = Found::Nothing;
     let mut i = n;
@@ -123,10 +163,51 @@ pub fn first_field(rows: &[u8], n: usize, arrows: bool) -> Found
         let k = cell(rows, 4 * i);
         hit = lower((k == SUPER) | (arrows & (k == ARROW)), i, hit);
         next[i] = hit as u16;
-        let holds = field_holds(rows, &next, i);
+        let holds = field_holds(rows, next, i);
         found = found_at(holds, i, found);
     }
     found
+}
+
+// The same with an array of its own, for a table of at most 64 rows,
+fn field_small(rows: &[u8], n: usize, arrows: bool) -> Found
+    requires { ⌜ GivenRows (now rows) n × (n ≤ 64) ⌝ }
+    ensures { λ r. ⌜ r ≡ seek (fieldRule arrows) tt tt 0 (rowsAt (words (now (rows .entry))) 0 n) ⌝ }
+{
+    let mut next = [0u16; 64];
+    field_in(rows, n, arrows, &mut next)
+}
+
+// of at most 1,024,
+fn field_middle(rows: &[u8], n: usize, arrows: bool) -> Found
+    requires { ⌜ GivenRows (now rows) n × (n ≤ 1024) ⌝ }
+    ensures { λ r. ⌜ r ≡ seek (fieldRule arrows) tt tt 0 (rowsAt (words (now (rows .entry))) 0 n) ⌝ }
+{
+    let mut next = [0u16; 1024];
+    field_in(rows, n, arrows, &mut next)
+}
+
+// and of at most 16,384.
+fn field_large(rows: &[u8], n: usize, arrows: bool) -> Found
+    requires { ⌜ GivenRows (now rows) n ⌝ }
+    ensures { λ r. ⌜ r ≡ seek (fieldRule arrows) tt tt 0 (rowsAt (words (now (rows .entry))) 0 n) ⌝ }
+{
+    let mut next = [0u16; 16384];
+    field_in(rows, n, arrows, &mut next)
+}
+
+// Refusal 7: the first Field whose value holds a Super, or with `arrows` an Arrow.
+pub fn first_field(rows: &[u8], n: usize, arrows: bool) -> Found
+    requires { ⌜ GivenRows (now rows) n ⌝ }
+    ensures { λ r. ⌜ r ≡ seek (fieldRule arrows) tt tt 0 (rowsAt (words (now (rows .entry))) 0 n) ⌝ }
+{
+    if n <= 64 {
+        return field_small(rows, n, arrows);
+    }
+    if n <= 1024 {
+        return field_middle(rows, n, arrows);
+    }
+    field_large(rows, n, arrows)
 }
 
 // Whether row i is a Declarator, Function or Class named `arguments`.

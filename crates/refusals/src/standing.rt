@@ -95,10 +95,9 @@ pub fn super_bad(v: u16, k: usize) -> bool
 }
 
 // Tells the rows side by side from c0 up to e: `one` to the first, `more` to the later ones.
-pub fn tell(rows: &[u8], told: &mut [u16; 16384], one: u16, more: u16, c0: usize, e: usize)
-    requires { ⌜ (e ≤ 16384) × ((16 * e ≤ length (now rows)) × (length (now told) ≡ 16384)) ⌝ }
-    ensures { λ r. ⌜ (length (now (told .exit)) ≡ 16384)
-        × ((j : ℕ) → getD (now (told .exit)) j 0 ≡ toldIn (firstThen one more) 0 (kids (words (now (rows .entry))) e c0 e) j (getD (now (told .entry)) j 0)) ⌝ }
+pub fn tell(rows: &[u8], told: &mut [u16], one: u16, more: u16, c0: usize, e: usize)
+    requires { ⌜ (e ≤ 16384) × ((16 * e ≤ length (now rows)) × (e ≤ length (now told))) ⌝ }
+    ensures { λ r. ⌜ ((j : ℕ) → getD (now (told .exit)) j 0 ≡ toldIn (firstThen one more) 0 (kids (words (now (rows .entry))) e c0 e) j (getD (now (told .entry)) j 0)) ⌝ }
 {
     let mut c = c0;
     let mut value = one;

@@ -16,6 +16,16 @@ and-right true b h = h
 and-right false true h = refl
 and-right false false h = h
 
+-- neither of two tests holds
+pub or-left : (a b : Bool) → (a || b) ≡ false → a ≡ false
+or-left true b h = h
+or-left false b h = refl
+
+pub or-right : (a b : Bool) → (a || b) ≡ false → b ≡ false
+or-right false b h = h
+or-right true false h = refl
+or-right true true h = h
+
 pub and-both : {a b : Bool} → a ≡ true → b ≡ true → (a && b) ≡ true
 and-both {a} {b} p q = rw (p, q)
 

@@ -1,4 +1,6 @@
 pub mod Bools
+pub mod Masks
+pub mod Attrs
 pub mod Cells
 pub mod Seeking
 pub mod Reading

@@ -12,7 +12,7 @@ use lib.ListN.{getD, length, set, length-set, replicate, length-replicate}
 use lib.Seq.{getD-set-same, getD-set-other}
 use Rattle.rows.specs.Words.{endAt}
 use Rattle.rows.specs.Faults.{endGood, kids, kidsOf}
-use Rattle.rows.specs.Told.{toldIn, toldBy}
+use Rattle.rows.specs.Told.{toldIn, toldBy, Fresh}
 use Rattle.rows.proofs.Children.{good-past, kids-good, kids-bad, kids-done}
 
 module _ (ws : List ℕ) (say : ℕ → ℕ → ℕ) (e : ℕ) where
@@ -126,6 +126,7 @@ module _ (ws : List ℕ) (say : ℕ → ℕ → ℕ) (e : ℕ) where
       }
 
 -- The visit of the rows in order, with what each has been told in an array R.
+-- n zeros hold 0 everywhere
 zeros : (n j : ℕ) → _≡_ {A = ℕ} (getD (replicate n 0) j 0) 0
 zeros zero j = refl
 zeros (suc n) zero = refl
@@ -135,19 +136,26 @@ cond-zero : (b : Bool) → _≡_ {A = ℕ} 0 (cond b 0 0)
 cond-zero true = refl
 cond-zero false = refl
 
-pub told-zero : (ws : List ℕ) (tell : ℕ → ℕ → ℕ → ℕ → ℕ) (n j : ℕ) → getD (replicate n 0) j 0 ≡ toldBy ws tell 0 0 j
-unfolding toldBy
-told-zero ws tell n j = zeros n j ∙ cond-zero (eqb j 0)
+-- zeros are an array in which no row has been told anything, whatever their number
+pub zeros-fresh : (size n : ℕ) → n ≤ size → Fresh (replicate size 0) n
+zeros-fresh size n l = (subst (λ (x : ℕ). n ≤ x) (sym (length-replicate size 0)) l, zeros size)
 
-pub start-long : (n r : ℕ) → length (set (replicate n 0) 0 r) ≡ n
-start-long n r = length-set (replicate n 0) 0 r ∙ length-replicate n 0
+-- an array that is all 0 is what the visit starts with where row 0 starts with 0
+pub told-fresh : (ws : List ℕ) (tell : ℕ → ℕ → ℕ → ℕ → ℕ) (R : List ℕ) → ((j : ℕ) → getD R j 0 ≡ 0) → (j : ℕ) → getD R j 0 ≡ toldBy ws tell 0 0 j
+unfolding toldBy
+told-fresh ws tell R z j = z j ∙ cond-zero (eqb j 0)
+
+-- and so are n zeros
+pub told-zero : (ws : List ℕ) (tell : ℕ → ℕ → ℕ → ℕ → ℕ) (n j : ℕ) → getD (replicate n 0) j 0 ≡ toldBy ws tell 0 0 j
+told-zero ws tell n = told-fresh ws tell (replicate n 0) (zeros n)
 
 module _ (ws : List ℕ) (tell : ℕ → ℕ → ℕ → ℕ → ℕ) (r : ℕ) where
-  pub told-start : (n j : ℕ) → 0 < n → getD (set (replicate n 0) 0 r) j 0 ≡ toldBy ws tell r 0 j
+  -- an array that is all 0, with r written at row 0, is what the visit starts with where row 0 starts with r
+  pub told-start : (R : List ℕ) → 0 < length R → ((j : ℕ) → getD R j 0 ≡ 0) → (j : ℕ) → getD (set R 0 r) j 0 ≡ toldBy ws tell r 0 j
   unfolding toldBy
-  told-start zero j h = absurd (omega arith)
-  told-start (suc n) zero h = refl
-  told-start (suc n) (suc j) h = zeros n j ∙ sym (ap (λ (b : Bool). cond b r 0) (eqb·suc-zero j))
+  told-start R l z zero = getD-set-same R 0 r 0 l
+  told-start R l z (suc j) =
+      getD-set-other R 0 (suc j) r 0 (λ q. omega arith) ∙ z (suc j) ∙ sym (ap (λ (b : Bool). cond b r 0) (eqb·suc-zero j))
 
   pub told-on : (i v e : ℕ) (say : ℕ → ℕ → ℕ) (R R′ : List ℕ) → ((j : ℕ) → getD R j 0 ≡ toldBy ws tell r i j) → v ≡ getD R i 0 → e ≡ endAt ws i → tell v i ≡ say
       → ((j : ℕ) → getD R′ j 0 ≡ toldIn say 0 (kids ws e (i + 1) e) j (getD R j 0)) → (j : ℕ) → getD R′ j 0 ≡ toldBy ws tell r (i + 1) j

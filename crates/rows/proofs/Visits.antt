@@ -14,7 +14,7 @@ use Rattle.rows.specs.Faults.{kids, kidsOf, earlyFault, lateFault, fault
 use Rattle.rows.specs.Told.{toldIn, toldBy, says, marks, topMark, markAt, faultAt, lowestFrom, lowestFault}
 use Rattle.rows.specs.declared.RowFault.{RowFault}
 use Rattle.rows.specs.declared.RowFault.the-variants.{Fine, Bad}
-use Rattle.rows.proofs.Bools.{and-right}
+use Rattle.rows.proofs.Bools.{and-left, and-right}
 use Rattle.rows.proofs.Telling.{told-on}
 
 none-of : (p q r : Bool) (rest : ℕ) → _≡_ {A = ℕ} (cond (not p) 1 (cond (not q) 2 (cond (not r) 3 rest))) 0 → ((p ≡ true) × ((q ≡ true) × (r ≡ true))) × (rest ≡ 0)
@@ -54,16 +54,17 @@ pub early-some : (place : ℕ) (ends : Bool) (k a rest : ℕ) → (earlyFault pl
 unfolding earlyFault
 early-some place ends k a rest h = some-of (kindOk k) (attrOk k a place) ends rest h
 
-module _ (ws : List ℕ) (n names : ℕ) where
+-- a table of n rows and that many names, with an array of that size
+module _ (ws : List ℕ) (n names size : ℕ) where
   -- the visit at row i: the rows that are left give the whole answer
   pub record Visit (R : List ℕ) (i : ℕ) : Type 0 where
     pub fuel : ℕ
     pub left : i + fuel ≡ n
-    pub long : length R ≡ 16384
+    pub long : length R ≡ size
     pub same : lowestFrom ws n names n 0 ≡ lowestFrom ws n names fuel i
     pub each : (j : ℕ) → getD R j 0 ≡ toldBy ws (marks ws) (topMark (endAt ws 0) n) i j
 
-  pub visit-start : (R : List ℕ) → length R ≡ 16384 → ((j : ℕ) → getD R j 0 ≡ toldBy ws (marks ws) (topMark (endAt ws 0) n) 0 j) → Visit R 0
+  pub visit-start : (R : List ℕ) → length R ≡ size → ((j : ℕ) → getD R j 0 ≡ toldBy ws (marks ws) (topMark (endAt ws 0) n) 0 j) → Visit R 0
   visit-start R l h = record { fuel = n; left = zero-add n; long = l; same = refl; each = h }
 
   more-fine : (f g i : ℕ) → f ≡ suc g → faultAt ws n names i ≡ 0 → lowestFrom ws n names f i ≡ lowestFrom ws n names g (i + 1)
@@ -105,6 +106,12 @@ module _ (ws : List ℕ) (n names : ℕ) where
     pub end-within : early 0 ≡ 0 → e ≤ n
     end-within z = leb-true e n (and-right (ltb m 16) (leb e n) (early-none _ _ _ _ _ z .0 .1 .1))
 
+    -- its kind is in the list
+    pub kind-below : early 0 ≡ 0 → k < 29
+    kind-below z =
+        let most : k ≤ 28 = leb-true k 28 (and-left (leb k 28) (not (eqb k 7)) (early-none _ _ _ _ _ z .0 .0)) in
+        omega arith
+
     module _ (count : ℕ) (z : early 0 ≡ 0) (qc : count ≡ length (kids ws e (i + 1) e)) where
       late-is : faultAt ws n names i ≡ lateFault names (m % 16) k a name count
       unfolding kidsOf
@@ -114,7 +121,7 @@ module _ (ws : List ℕ) (n names : ℕ) where
       unfolding lowestFault
       bad-late b q d = sym (v .same ∙ more-bad (v .fuel) (pre .0) i b (pre .1) (late-is ∙ sym q) d)
 
-      pub visit-next : lateFault names (m % 16) k a name count ≡ 0 → (R′ : List ℕ) → length R′ ≡ 16384
+      pub visit-next : lateFault names (m % 16) k a name count ≡ 0 → (R′ : List ℕ) → length R′ ≡ size
           → ((j : ℕ) → getD R′ j 0 ≡ toldIn (says ws k a e) 0 (kids ws e (i + 1) e) j (getD R j 0)) → Visit R′ (i + 1)
       visit-next y R′ l r = record {
         fuel = pre .0;

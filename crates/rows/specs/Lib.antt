@@ -4,6 +4,7 @@ pub mod Utf8
 pub mod First
 pub mod Names
 pub mod Grammar
+pub mod Masks
 pub mod Forest
 pub mod Faults
 pub mod Nested

@@ -1,9 +1,11 @@
 -- What each row is told by its parent, over any words, as a visit of the rows in order finds it: each row tells its children, which it finds by hopping over ends.
 -- A row's parent is the last row before it among whose children it is. Assumes nothing.
-use Prim.Native.Nat.{ℕ, zero, suc, _+_, _%_}
+use mathlib.Core.Path.{_≡_}
+use Prim.Native.Nat.{ℕ, zero, suc, _+_, _%_, _≤_}
 use mathlib.Core.Bool.{Bool, true, false, cond, _&&_}
 use mathlib.Core.List.{List, [], _∷_}
 use lib.Dec.{eqb, ltb, leb}
+use lib.ListN.{length, getD}
 use Rattle.rows.specs.Words.{kindAt, attrAt, endAt}
 use Rattle.rows.specs.Grammar.{topPlace, placeOf}
 use Rattle.rows.specs.First.{first}
@@ -21,6 +23,10 @@ toldIn say pos (c ∷ cs) j v = cond (eqb j c) (say pos c) (toldIn say (pos + 1)
 unfoldable pub toldBy : List ℕ → (tell : ℕ → ℕ → ℕ → ℕ → ℕ) (r i j : ℕ) → ℕ
 toldBy ws tell r zero j = cond (eqb j 0) r 0
 toldBy ws tell r (suc p) j = toldIn (tell (toldBy ws tell r p p) p) 0 (kidsOf ws p) j (toldBy ws tell r p j)
+
+-- an array with room for n rows, in which no row has been told anything: it is all 0
+abbrev pub Fresh : List ℕ → (n : ℕ) → Type 0
+Fresh R n = (n ≤ length R) × ((j : ℕ) → getD R j 0 ≡ 0)
 
 -- one value for every child
 abbrev pub toAll : ℕ → ℕ → ℕ → ℕ

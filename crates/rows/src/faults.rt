@@ -14,20 +14,12 @@ ghost use Prim.Native.Nat.{ℕ, _+_, _*_, _<_, _≤_};
 ghost use lib.ListN.{length, getD};
 ghost use Rattle.rows.specs.Words.{words};
 ghost use Rattle.rows.specs.Faults.{kids, earlyFault, lateFault, firstFault};
-ghost use Rattle.rows.specs.Told.{toldIn, says, topMark, lowestFault};
+ghost use Rattle.rows.specs.Told.{toldIn, Fresh, says, topMark, lowestFault};
 
 // Marks the children of a row of kind k, attr a, whose subtree ends at e and whose first child is
 // at c0; how many there are.
-fn mark_children(
-    s: &[u8],
-    marks: &mut [u8; 16384],
-    k: usize,
-    a: usize,
-    c0: usize,
-    e: usize,
-) -> usize
-    requires { ⌜ (e ≤ 16384) × ((16 * e ≤ length (now s)) × (length (now marks) ≡ 16384)) ⌝ }
-    ensures { λ r. ⌜ length (now (marks .exit)) ≡ 16384 ⌝ }
+fn mark_children(s: &[u8], marks: &mut [u8], k: usize, a: usize, c0: usize, e: usize) -> usize
+    requires { ⌜ (e ≤ 16384) × ((16 * e ≤ length (now s)) × (e ≤ length (now marks))) ⌝ }
     ensures { λ r. ⌜ (r ≡ length (kids (words (now (s .entry))) e c0 e))
         × ((j : ℕ) → getD (now (marks .exit)) j 0 ≡ toldIn (says (words (now (s .entry))) k a e) 0 (kids (words (now (s .entry))) e c0 e) j (getD (now (marks .entry)) j 0)) ⌝ }
 {
@@ -66,6 +58,7 @@ fn early_fault(place: u8, ends: bool, k: usize, a: usize) -> u32
 
 // Classes 4 and 5.
 fn late_fault(names: usize, place: u8, k: usize, a: usize, name: usize, count: usize) -> u32
+    requires { ⌜ k < 29 ⌝ }
     ensures { λ r. ⌜ r ≡ lateFault names place k a name count ⌝ }
 {
     if !(fits_in(place, k) & count_ok(k, a, count)) {
@@ -87,12 +80,12 @@ fn top_mark(end: usize, n: usize) -> u8
     17
 }
 
-// The lowest row that has a fault.
-pub fn lowest_fault(s: &[u8], n: usize, names: usize) -> RowFault
+// The lowest row that has a fault. The array has room for n marks and is all 0.
+fn lowest_fault(s: &[u8], n: usize, names: usize, marks: &mut [u8]) -> RowFault
     requires { ⌜ (0 < n) × ((n ≤ 16384) × (16 * n ≤ length (now s))) ⌝ }
+    requires { ⌜ Fresh (now marks) n ⌝ }
     ensures { λ r. ⌜ r ≡ lowestFault (words (now (s .entry))) n names ⌝ }
 {
-    let mut marks = [0u8; 16384];
     marks[0] = top_mark(cell(s, 3), n);
     let mut i: usize = 0;
     while i < n {
@@ -109,7 +102,7 @@ pub fn lowest_fault(s: &[u8], n: usize, names: usize) -> RowFault
                 row: i,
             };
         }
-        let count = mark_children(s, &mut marks, k, a, i + 1, e);
+        let count = mark_children(s, marks, k, a, i + 1, e);
         let late = late_fault(names, place, k, a, name, count);
         if late != 0 {
             return RowFault::Bad {
@@ -122,10 +115,43 @@ pub fn lowest_fault(s: &[u8], n: usize, names: usize) -> RowFault
     RowFault::Fine
 }
 
-// Refusal 2: the first bad row.
+// The lowest fault of a table of at most 64 rows,
+fn small(s: &[u8], n: usize, names: usize) -> RowFault
+    requires { ⌜ (0 < n) × ((n ≤ 64) × (16 * n ≤ length (now s))) ⌝ }
+    ensures { λ r. ⌜ r ≡ lowestFault (words (now (s .entry))) n names ⌝ }
+{
+    let mut marks = [0u8; 64];
+    lowest_fault(s, n, names, &mut marks)
+}
+
+// of at most 1,024,
+fn middle(s: &[u8], n: usize, names: usize) -> RowFault
+    requires { ⌜ (0 < n) × ((n ≤ 1024) × (16 * n ≤ length (now s))) ⌝ }
+    ensures { λ r. ⌜ r ≡ lowestFault (words (now (s .entry))) n names ⌝ }
+{
+    let mut marks = [0u8; 1024];
+    lowest_fault(s, n, names, &mut marks)
+}
+
+// and of at most 16,384.
+fn large(s: &[u8], n: usize, names: usize) -> RowFault
+    requires { ⌜ (0 < n) × ((n ≤ 16384) × (16 * n ≤ length (now s))) ⌝ }
+    ensures { λ r. ⌜ r ≡ lowestFault (words (now (s .entry))) n names ⌝ }
+{
+    let mut marks = [0u8; 16384];
+    lowest_fault(s, n, names, &mut marks)
+}
+
+// Refusal 2: the first bad row, with an array that is as large as the table needs.
 pub fn first_fault(s: &[u8], n: usize, names: usize) -> RowFault
     requires { ⌜ (0 < n) × ((n ≤ 16384) × (16 * n ≤ length (now s))) ⌝ }
     ensures { λ r. ⌜ r ≡ firstFault (words (now (s .entry))) n names ⌝ }
 {
-    lowest_fault(s, n, names)
+    if n <= 64 {
+        return small(s, n, names);
+    }
+    if n <= 1024 {
+        return middle(s, n, names);
+    }
+    large(s, n, names)
 }

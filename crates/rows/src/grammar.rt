@@ -6,7 +6,6 @@ use crate::kinds::BLOCK;
 use crate::kinds::BODY;
 use crate::kinds::CALL;
 use crate::kinds::CLASS;
-use crate::kinds::COMPUTED;
 use crate::kinds::DECLARATOR;
 use crate::kinds::EXPR_STMT;
 use crate::kinds::FIELD;
@@ -23,13 +22,13 @@ use crate::kinds::PROPERTY;
 use crate::kinds::RETURN;
 use crate::kinds::SEQUENCE;
 use crate::kinds::STATIC_BLOCK;
-use crate::kinds::SUPER;
 use crate::kinds::TARGET;
-use crate::kinds::THIS;
 use crate::kinds::VAR;
 ghost use mathlib.Core.Path.{_≡_};
+ghost use mathlib.Core.Bool.{true};
 ghost use Prim.Native.Nat.{ℕ, _<_};
-ghost use Rattle.rows.specs.Grammar.{listKind, expression, statementKind, placeOf, placeInFunction, placeInClass, kindOk, declarationOk, constructorOk, attrOk, fits, countOk, madeRow, namesOne, nameOk};
+ghost use Rattle.rows.specs.Masks.{setOf, countByAttr, lastAttr, attrByPlace};
+ghost use Rattle.rows.specs.Grammar.{listKind, placeOf, placeInFunction, placeInClass, kindOk, declarationOk, constructorOk, attrOk, fits, countOk, madeRow, namesOne, nameOk};
 
 // The places in which a row can stand under its parent.
 const NO_PLACE: u8 = 0;
@@ -63,29 +62,13 @@ const ASSIGNED_PLACE: u8 = 13;
 const FUNCTION_PLACE: u8 = 14;
 
 const CONSTRUCTOR_PLACE: u8 = 15;
+// The last attr of a kind that has any.
+const ANY_ATTR: usize = 18446744073709551615;
 
 fn list_kind(k: usize) -> bool
     ensures { λ o. ⌜ o ≡ listKind k ⌝ }
 {
     (k == PROGRAM) | (k == BLOCK) | (k == BODY) | (k == STATIC_BLOCK)
-}
-
-fn is_expression(k: usize) -> bool
-    ensures { λ o. ⌜ o ≡ expression k ⌝ }
-{
-    (k == OPAQUE)
-        | (k == THIS)
-        | ((IDENT <= k) & (k <= FUNCTION))
-        | (k == CLASS)
-        | (k == OBJECT)
-        | (k == SEQUENCE)
-        | (k == ARGUMENTS)
-}
-
-fn is_statement_kind(k: usize) -> bool
-    ensures { λ o. ⌜ o ≡ statementKind k ⌝ }
-{
-    (k == EXPR_STMT) | (k == VAR) | ((RETURN <= k) & (k <= OTHER))
 }
 
 pub fn kind_ok(k: usize) -> bool
@@ -108,71 +91,112 @@ fn constructor_ok(a: usize, place: u8) -> bool
     !(a / 4 % 2 == 1) | ((a == 4) & (place == CONSTRUCTOR_PLACE))
 }
 
-pub fn attr_ok(k: usize, a: usize, place: u8) -> bool
-    ensures { λ o. ⌜ o ≡ attrOk k a place ⌝ }
+// The last attr of a kind but Function and Class; the kind's attrs are the numbers up to it.
+fn last_attr(k: usize) -> usize
+    ensures { λ r. ⌜ r ≡ lastAttr k ⌝ }
+{
+    match k {
+        VAR => 2,
+        DECLARATOR => 1,
+        BLOCK => 1,
+        OTHER => ANY_ATTR,
+        OPAQUE => ANY_ATTR,
+        IDENT => 1,
+        MEMBER => 1,
+        ASSIGN => 15,
+        ARROW => 3,
+        METHOD => 3,
+        FIELD => 7,
+        PROPERTY => 3,
+        ARGUMENTS => 1,
+        _ => 0,
+    }
+}
+
+// The attrs of Function and Class, which depend on the place too.
+fn placed_attr(k: usize, a: usize, place: u8) -> bool
+    ensures { λ o. ⌜ o ≡ attrByPlace k a place ⌝ }
 {
     let declared = declaration_ok(a, place);
     let constructs = constructor_ok(a, place);
-    ((k == VAR) & (a < 3))
-        | (((k == DECLARATOR) | (k == BLOCK) | (k == IDENT) | (k == MEMBER) | (k == ARGUMENTS))
-            & (a < 2))
-        | ((k == OTHER) | (k == OPAQUE))
-        | ((k == ASSIGN) & (a < 16))
-        | (((k == ARROW) | (k == METHOD) | (k == PROPERTY)) & (a < 4))
-        | ((k == FUNCTION) & (a < 16) & declared & constructs)
+    ((k == FUNCTION) & (a < 16) & declared & constructs)
         | ((k == CLASS) & (a < 10) & !(a / 2 % 2 == 1) & !(a / 4 % 2 == 1) & declared)
-        | ((k == FIELD) & (a < 8))
-        | (((k == PROGRAM)
-            | (k == EXPR_STMT)
-            | (k == RETURN)
-            | (k == THIS)
-            | (k == SUPER)
-            | (k == COMPUTED)
-            | (k == CALL)
-            | (k == PARAMS)
-            | (k == BODY)
-            | (k == STATIC_BLOCK)
-            | (k == OBJECT)
-            | (k == SEQUENCE)
-            | (k == TARGET))
-            & (a == 0))
 }
 
+// The attrs of a kind that is in the list.
+pub fn attr_ok(k: usize, a: usize, place: u8) -> bool
+    requires { ⌜ kindOk k ≡ true ⌝ }
+    ensures { λ o. ⌜ o ≡ attrOk k a place ⌝ }
+{
+    if (k == FUNCTION) | (k == CLASS) {
+        return placed_attr(k, a, place);
+    }
+    a <= last_attr(k)
+}
+
+// The kinds that may stand in a place, as a set: bit k is 1 where kind k is in it.
+fn kinds_in(place: u8) -> usize
+    ensures { λ r. ⌜ r ≡ setOf (fits place) ⌝ }
+{
+    match place {
+        TOP_PLACE => 1,
+        STATEMENT_PLACE => 0x120076,
+        EXPRESSION_PLACE => 0xD13FB00,
+        OBJECT_PLACE => 0xD13FF00,
+        DECLARATOR_PLACE => 8,
+        PARAMS_PLACE => 0x40000,
+        BODY_PLACE => 0x80000,
+        MEMBER_PLACE => 0xE00000,
+        TARGET_PLACE => 0x10000000,
+        OTHER_PLACE => 0x1D13FB76,
+        OPAQUE_PLACE => 0x1D13FB00,
+        PROPERTY_PLACE => 0xF13FB00,
+        ASSIGNED_PLACE => 0x3900,
+        FUNCTION_PLACE => 0x20000,
+        CONSTRUCTOR_PLACE => 0x20000,
+        _ => 0,
+    }
+}
+
+// What may stand in a place, by its kind, which is in the list.
 pub fn fits_in(place: u8, k: usize) -> bool
+    requires { ⌜ k < 29 ⌝ }
     ensures { λ o. ⌜ o ≡ fits place k ⌝ }
 {
-    let statement = is_statement_kind(k);
-    let expr = is_expression(k);
-    ((place == TOP_PLACE) & (k == PROGRAM))
-        | ((place == STATEMENT_PLACE) & (statement | (k == FUNCTION) | (k == CLASS)))
-        | ((place == EXPRESSION_PLACE) & expr)
-        | ((place == OBJECT_PLACE) & (expr | (k == SUPER)))
-        | ((place == DECLARATOR_PLACE) & (k == DECLARATOR))
-        | ((place == PARAMS_PLACE) & (k == PARAMS))
-        | ((place == BODY_PLACE) & (k == BODY))
-        | ((place == MEMBER_PLACE) & ((METHOD <= k) & (k <= STATIC_BLOCK)))
-        | ((place == TARGET_PLACE) & (k == TARGET))
-        | ((place == OTHER_PLACE) & (statement | expr | (k == TARGET)))
-        | ((place == OPAQUE_PLACE) & (expr | (k == TARGET)))
-        | ((place == PROPERTY_PLACE) & (expr | (k == PROPERTY)))
-        | ((place == ASSIGNED_PLACE) & ((k == OPAQUE) | ((IDENT <= k) & (k <= COMPUTED))))
-        | (((place == FUNCTION_PLACE) | (place == CONSTRUCTOR_PLACE)) & (k == FUNCTION))
+    (kinds_in(place) >> k) % 2 == 1
 }
 
-pub fn count_ok(k: usize, a: usize, count: usize) -> bool
-    ensures { λ o. ⌜ o ≡ countOk k a count ⌝ }
+// The kinds whose rows may have so many children where attr is 0, as a set: bit k is 1 where kind k
+// is in it.
+fn kinds_of(count: usize) -> usize
+    ensures { λ r. ⌜ r ≡ setOf (λ k. countOk k 0 count) ⌝ }
 {
-    let list = list_kind(k);
-    (list | (k == VAR) | (k == OTHER) | (k == OPAQUE) | (k == PARAMS) | (k == OBJECT))
-        | (((k == EXPR_STMT) | (k == MEMBER) | (k == TARGET)) & (count == 1))
-        | (((k == DECLARATOR) | (k == RETURN)) & (count < 2))
-        | (((k == THIS) | (k == SUPER) | (k == IDENT) | (k == ARGUMENTS)) & (count == 0))
-        | (((k == COMPUTED) | (k == ASSIGN) | (k == ARROW) | (k == FUNCTION)) & (count == 2))
-        | ((k == CALL) & (0 < count))
-        | ((k == CLASS) & (!(a % 2 == 1) | (0 < count)))
+    match count {
+        0 => 0x9DC0F7D,
+        1 => 0x13BC517F,
+        2 => 0x59FE165,
+        _ => 0x59C4165,
+    }
+}
+
+// How many children a row has, of the four kinds for which it depends on attr.
+fn counted(k: usize, a: usize, count: usize) -> bool
+    ensures { λ o. ⌜ o ≡ countByAttr k a count ⌝ }
+{
+    ((k == CLASS) & (!(a % 2 == 1) | (0 < count)))
         | (((k == METHOD) | (k == PROPERTY)) & (count == 1 + a % 2))
         | ((k == FIELD) & (count == a % 2 + a / 4 % 2))
-        | ((k == SEQUENCE) & (1 < count))
+}
+
+// How many children a row has, whose kind is in the list.
+pub fn count_ok(k: usize, a: usize, count: usize) -> bool
+    requires { ⌜ k < 29 ⌝ }
+    ensures { λ o. ⌜ o ≡ countOk k a count ⌝ }
+{
+    if (k == CLASS) | (k == METHOD) | (k == FIELD) | (k == PROPERTY) {
+        return counted(k, a, count);
+    }
+    (kinds_of(count) >> k) % 2 == 1
 }
 
 // A row that refusal 5 names.

@@ -52,10 +52,11 @@ module _ (rowLimit depthLimit : ℕ) (w : Switches) (rows names text : List ℕ)
       let b = S .sizes .rowBytes in
       omega (arith, length-flat 0 (table rows), ap length (S .same), words-long rows (4 * rowsIn rows) (omega arith))
 
-  -- Bounds, for any switches: fewer bindings than rows, at most 19 times the rows, every record within refusal 11's tests.
+  -- Bounds, for any switches: fewer bindings than rows, every record within refusal 11's tests, at most 8 rows for each row and 11 for each binding, so at most 19 times the rows.
   pub record Within (r : Result) : Type 0 where
     pub few : length (r .bindings) < rowsIn rows
     pub inRange : AllSound (namesIn names) (rowsIn rows) (r .bindings)
+    pub rows-by : size (r .rows) ≤ 8 * rowsIn rows + 11 * length (r .bindings)
     pub rows-few : size (r .rows) ≤ 19 * rowsIn rows
 
   pub result-within : Within (steps N w (table rows))
@@ -67,7 +68,7 @@ module _ (rowLimit depthLimit : ℕ) (w : Switches) (rows names text : List ℕ)
       let e : 1 + size i + 0 ≡ rowsIn rows = sym (ap size (g .root)) ∙ table-size in
       let e₁ : 1 + size i ≡ rowsIn rows = omega arith in
       subst (λ (t : Rows). Within (steps N w t)) (sym (g .root))
-      (record { few = omega (arith, b .few); inRange = rw e₁ at (b .sound); rows-few = omega (arith, b .rows) })
+      (record { few = omega (arith, b .few); inRange = rw e₁ at (b .sound); rows-by = omega (arith, b .rows); rows-few = omega (arith, b .rows, b .few) })
 
   -- no cursor of 32 bits wraps
   pub result-small : size (steps N w (table rows) .rows) < 2 ^ 32

@@ -23,7 +23,7 @@ use Rattle.rows.specs.Forest.{Rows, Rows.none, Rows.node, size}
 pub record Bounded (M : ℕ) (i : Rows) (r : Result) : Type 0 where
   pub few : length (r .bindings) ≤ size i
   pub sound : AllSound M (1 + size i) (r .bindings)
-  pub rows : size (r .rows) ≤ 6 + 19 * size i
+  pub rows : size (r .rows) ≤ 6 + 8 * size i + 11 * length (r .bindings)
 
 whole : (N : Names) (w : Switches) (M : ℕ) (i : Rows) → Named M i → AllSound M (1 + size i) (madeC N w (node 0 0 0 i none))
 unfolding size Named NamedRow kindOf
@@ -32,7 +32,7 @@ whole N w M i z =
     rw e at (made-sound N w M (node 0 0 0 i none) (tt, z, tt))
 
 pub bounded : (N : Names) (w : Switches) (M : ℕ) (i : Rows) → Wf i → Named M i → Bounded M i (steps N w (node 0 0 0 i none))
-bounded N w M i f z = rw (steps-same N w (node 0 0 0 i none)) (record { few = few (enabled w || asyncOnly w) refl; sound = sound (enabled w || asyncOnly w) refl; rows = steps-size N w M i (wf-fit i f) z })
+bounded N w M i f z = rw (steps-same N w (node 0 0 0 i none)) (record { few = few (enabled w || asyncOnly w) refl; sound = sound (enabled w || asyncOnly w) refl; rows = steps-size N w i (wf-fit i f) })
   where
     few : (x : Bool) → (enabled w || asyncOnly w) ≡ x → length (stepsC N w (node 0 0 0 i none) .bindings) ≤ size i
     few true e = unfold stepsC in rw e (made-few N w M i (wf-fit i f) z)
@@ -44,7 +44,7 @@ bounded N w M i f z = rw (steps-same N w (node 0 0 0 i none)) (record { few = fe
 
 -- no cursor of 32 bits wraps
 pub cursors : (N : Names) (w : Switches) (M : ℕ) (i : Rows) → Wf i → Named M i → 1 + size i ≤ 16384 → size (steps N w (node 0 0 0 i none) .rows) < 2 ^ 32
-cursors N w M i f z l = let b = bounded N w M i f z in omega (arith, b .rows)
+cursors N w M i f z l = let b = bounded N w M i f z in omega (arith, b .rows, b .few)
 
 -- demand 3, of the steps over paths
 pub kept : (N : Names) → sameAs N 0 0 ≡ true → (i : Rows) → Wf i → Calm atTop atTop false i → OwnersKept (node 0 0 0 i none) (steps N arrowsOn (node 0 0 0 i none))

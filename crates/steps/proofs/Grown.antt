@@ -1,4 +1,4 @@
--- A result has at most 6 + 19 times the rows. Assumes nothing.
+-- A result has at most 8 rows for each row of the table and 11 for each binding. Assumes nothing.
 use mathlib.Core.Path.{_≡_, refl, ap, ap₂, _∙_, sym, subst}
 use mathlib.Core.List.{List, [], _∷_, _++_}
 use Prim.Native.Nat.{ℕ, zero, suc, _+_, _*_, _≤_, _<_}
@@ -16,9 +16,8 @@ use Rattle.steps.specs.TopInsertion.{frameTop, top}
 use Rattle.steps.specs.Walk.{build}
 use Rattle.steps.specs.ArrowToFunction.{dress}
 use Rattle.steps.specs.Context.{enter, start, Spot, spot, into, actC, lateC, emitC, madeC, stepsC}
-use Rattle.steps.proofs.Records.{Named}
 use Rattle.steps.proofs.Credit.{eqb-eq}
-use Rattle.steps.proofs.Fewer.{FitRow, Fit, Bodied, closes-plain, not-function, pick, slot-one, slot-more, made-few}
+use Rattle.steps.proofs.Fewer.{FitRow, Fit, Bodied, closes-plain, not-function, pick, slot-one, slot-more}
 use Rattle.steps.proofs.Sizes.{supers, vol, upto, upto-all, upto-up, top-size, dress-vol, shut-vol}
 use Rattle.rows.specs.Forest.{Rows, Rows.none, Rows.node, size}
 use Rattle.steps.proofs.WellShaped.{OneBody, ParamsBody}
@@ -148,7 +147,7 @@ module _ (N : Names) (w : Switches) (bs : List Binding) where
         pair = λ c q' o f PB. subst (λ (k : ℕ). Pair (node k a n i s)) (sym (PB .0)) (pair-node a n i s I S (PB .1)) c q' o f PB;
       }
 
--- The result has at most 19 times the rows.
+-- the rows that are written with the bindings bs
 pub emit-size : (N : Names) (w : Switches) (bs : List Binding) (i : Rows) → Fit i →
     size (emitC N w bs (spot start free) (spot start free) 0 (node 0 0 0 i none)) ≤ 6 + 8 * size i + 11 * length bs
 unfolding emitC actC act actOf kindOf closes top enter build dress Plain size
@@ -157,13 +156,11 @@ emit-size N w bs i f =
     let h = claim N w bs i .plain t t 1 f refl refl in
     omega (arith, top-size N bs 0 true false (emitC N w bs t t 1 i), upto-all (1 + size i) bs)
 
-pub steps-size : (N : Names) (w : Switches) (M : ℕ) (i : Rows) → Fit i → Named M i →
-    size (stepsC N w (node 0 0 0 i none) .rows) ≤ 6 + 19 * size i
-steps-size N w M i f z = go (enabled w || asyncOnly w) refl
+-- the rows of the steps, by the number of their bindings
+pub steps-size : (N : Names) (w : Switches) (i : Rows) → Fit i →
+    size (stepsC N w (node 0 0 0 i none) .rows) ≤ 6 + 8 * size i + 11 * length (stepsC N w (node 0 0 0 i none) .bindings)
+steps-size N w i f = go (enabled w || asyncOnly w) refl
   where
-    t : Rows
-    t = node 0 0 0 i none
-
-    go : (x : Bool) → (enabled w || asyncOnly w) ≡ x → size (stepsC N w (node 0 0 0 i none) .rows) ≤ 6 + 19 * size i
-    go true e = unfold stepsC in rw e (omega (arith, emit-size N w (madeC N w (node 0 0 0 i none)) i f, made-few N w M i f z))
+    go : (x : Bool) → (enabled w || asyncOnly w) ≡ x → size (stepsC N w (node 0 0 0 i none) .rows) ≤ 6 + 8 * size i + 11 * length (stepsC N w (node 0 0 0 i none) .bindings)
+    go true e = unfold stepsC in rw e (emit-size N w (madeC N w (node 0 0 0 i none)) i f)
     go false e = unfold stepsC size in rw e (omega arith)

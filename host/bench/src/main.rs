@@ -4,13 +4,16 @@
 //!   bash tools/host.sh bench            what is lent stays as it is between calls
 //!   bash tools/host.sh bench cleared    what is lent is set to 0 before each call, in the time of the library and of the
 //!                                       copy; the reference allocates its result, as ever
+//!   bash tools/host.sh bench ample      as much room for rows as `thawcopper::convert` lends, in which the library need not
+//!                                       count them first
 //!
 //!   bash tools/host.sh bench profile SHAPE MODE    the library alone for 3 seconds, for a profiler; SHAPE is `script`,
 //!                                       `accessors`, `constructor` or `list`, MODE a mode
 //!
 //! Same tables, same process, release build. The three take turns: a round is a run of each, a run as many calls as take
 //! about 2 milliseconds, and there are 11 rounds. Figures are nanoseconds a row of the table, the median of the rounds.
-//! A ratio is taken in each round; the median, the least and the most are printed. Lent is just the room of the result.
+//! A ratio is taken in each round; the median, the least and the most are printed. But for `ample`, lent is just the room
+//! of the result.
 //! Time is the thread's own processor time (Linux), so that other work on the machine counts less.
 
 mod shapes;
@@ -129,7 +132,14 @@ fn words(list: impl IntoIterator<Item = u32>) -> Vec<u8> {
     list.into_iter().flat_map(u32::to_le_bytes).collect()
 }
 
-fn measure(what: &str, table: Table, cleared: bool, all: &mut Vec<Measured>) {
+/// What is lent: whether it is set to 0 before each call, and whether there is room to spare.
+#[derive(Clone, Copy)]
+struct Way {
+    cleared: bool,
+    ample: bool,
+}
+
+fn measure(what: &str, table: Table, way: Way, all: &mut Vec<Measured>) {
     let count = table.rows.len();
     let rows = words(table.rows.into_iter().flatten());
     let names = words(table.names);
@@ -145,13 +155,14 @@ fn measure(what: &str, table: Table, cleared: bool, all: &mut Vec<Measured>) {
                 std::process::exit(1);
             }
         };
+        let room = if way.ample { 11 * count + 16 } else { converted.rows.len() };
         let mut lent = Lent {
             rows: rows.clone(),
             names: names.clone(),
             text: table.text.clone(),
-            out_rows: vec![0; converted.rows.len() * 16],
+            out_rows: vec![0; room * 16],
             out_bindings: vec![0; converted.bindings.len() * 12],
-            cleared,
+            cleared: way.cleared,
         };
         let ways: [fn(&mut Lent, Switches); 3] = [Lent::library, Lent::reference, Lent::copy];
         let calls = ways.map(|one| calls_for(&mut lent, switches, one));
@@ -217,10 +228,14 @@ fn main() {
             return profile(shape, mode);
         }
     }
-    let cleared = std::env::args().nth(1).map_or(false, |word| word == "cleared");
+    let way = Way {
+        cleared: arguments.iter().any(|word| word == "cleared"),
+        ample: arguments.iter().any(|word| word == "ample"),
+    };
     println!(
-        "nanoseconds a row of the table; what is lent is {} before each call",
-        if cleared { "set to 0" } else { "not cleared" }
+        "nanoseconds a row of the table; lent is {}, {} before each call",
+        if way.ample { "room to spare" } else { "just the room of the result" },
+        if way.cleared { "set to 0" } else { "not cleared" }
     );
     println!(
         "{:<36} {:>6} {:<9} {:>8} {:>8} {:>6}   {:<22}   {}",
@@ -228,16 +243,16 @@ fn main() {
     );
     let mut all = Vec::new();
     for rows in [16, 64, 256, 1_024, 4_096, 16_384] {
-        measure("a script", shapes::ordinary(rows), cleared, &mut all);
+        measure("a script", shapes::ordinary(rows), way, &mut all);
     }
-    measure("arrows in arrows, depth 128", shapes::deep(), cleared, &mut all);
-    measure("2,340 functions that each capture", shapes::functions(), cleared, &mut all);
-    measure("2,730 methods that each read this", shapes::methods(), cleared, &mut all);
+    measure("arrows in arrows, depth 128", shapes::deep(), way, &mut all);
+    measure("2,340 functions that each capture", shapes::functions(), way, &mut all);
+    measure("2,730 methods that each read this", shapes::methods(), way, &mut all);
     for count in [125, 500, 2_000] {
-        measure(&format!("{} accessors in one frame", count), shapes::accessors(count), cleared, &mut all);
+        measure(&format!("{} accessors in one frame", count), shapes::accessors(count), way, &mut all);
     }
-    measure("a list of 16,000 statements", shapes::list(), cleared, &mut all);
-    measure("a constructor of 16,000 statements", shapes::constructor(), cleared, &mut all);
+    measure("a list of 16,000 statements", shapes::list(), way, &mut all);
+    measure("a constructor of 16,000 statements", shapes::constructor(), way, &mut all);
     goals(&all);
 }
 

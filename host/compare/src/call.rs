@@ -105,9 +105,10 @@ pub struct Room {
 /// Which rooms are tried.
 #[derive(Clone, Copy, PartialEq)]
 pub enum Rooms {
-    /// Exact; and one byte short, rows and bindings by turns.
+    /// Exact; one byte short, rows and bindings by turns; and in two of the eight settings so much that rows are not counted.
     Some,
-    /// Exact, short by one byte of each, with bytes to spare that are no whole row, none, and plenty.
+    /// Exact, short by one byte of each, with bytes to spare that are no whole row, none, plenty, and around so much that
+    /// rows are not counted.
     All,
 }
 
@@ -212,15 +213,20 @@ impl Comparer {
         self.against(switches, input, exact, &wanted)?;
         let short_rows = Room { rows: exact.rows - 1, ..exact };
         let short_bindings = Room { bindings: exact.bindings.saturating_sub(1), ..exact };
+        // From this much room on the library need not count the rows first.
+        let ample = Room { rows: 8 * input.rows.len() + 11 * 16 * (exact.bindings / 12), ..exact };
         if rooms == Rooms::Some {
             let short = if turn % 2 == 0 || exact.bindings == 0 { short_rows } else { short_bindings };
-            return self.one(switches, input, short);
+            self.one(switches, input, short)?;
+            return if turn % 4 == 3 { self.against(switches, input, ample, &wanted) } else { Ok(()) };
         }
         let spare = Room { rows: exact.rows + 15, bindings: exact.bindings + 11 };
         let more = Room { rows: exact.rows + 16, bindings: exact.bindings + 12 };
         let none = Room { rows: 0, bindings: 0 };
         let fewer = Room { rows: exact.rows.saturating_sub(160), bindings: exact.bindings + 120 };
-        for room in [short_rows, short_bindings, spare, more, none, fewer, plenty] {
+        let nearly = Room { rows: ample.rows - 1, ..exact };
+        let ample_short = Room { rows: ample.rows, ..short_bindings };
+        for room in [short_rows, short_bindings, spare, more, none, fewer, plenty, ample, nearly, ample_short] {
             self.one(switches, input, room)?;
         }
         Ok(())

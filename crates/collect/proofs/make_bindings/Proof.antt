@@ -6,17 +6,17 @@ use borrow.Author.Needs.{needs}
 use Rattle.collect.proofs.make_bindings.Statement.{statement}
 use Rattle.collect.proofs.make_bindings.Tie as tie
 
-at-program-requires : tie.Need-at-program-requires
-at-program-requires c κs = search needs
+program-requires : tie.Need-program-requires
+program-requires c κs = search needs
 
 collect-requires : tie.Need-collect-requires
-collect-requires c κs = (c .before .before .before .before .before .before .pre .0, (c .before .before .before .before .before .before .pre .1 .0, program-collects (namesOf (c .before .before .before .before .before .before .args .names .now) (c .before .before .before .before .before .before .args .text .now)) (switchesOf (c .before .before .before .before .before .before .args .switches)) (c .before .before .before .before .before .before .args .rows .now) (c .before .before .before .before .before .before .pre .1 .1) (c .before .at-program .ensures)))
+collect-requires c κs = (c .before .before .before .before .before .before .pre .0, (c .before .before .before .before .before .before .pre .1 .0, program-collects (namesOf (c .before .before .before .before .before .before .args .names .now) (c .before .before .before .before .before .before .args .text .now)) (switchesOf (c .before .before .before .before .before .before .args .switches)) (c .before .before .before .before .before .before .args .rows .now) (c .before .before .before .before .before .before .pre .1 .1) (c .before .program .ensures)))
 
 same-length : tie.Need-same-length
 same-length c = search needs
 
 returns : tie.Need-returns
-returns c = program-kept (namesOf (c .before .before .before .before .before .before .before .before .before .args .names .now) (c .before .before .before .before .before .before .before .before .before .args .text .now)) (switchesOf (c .before .before .before .before .before .before .before .before .before .args .switches)) (c .before .before .before .before .before .before .before .before .before .args .rows .now) (c .before .before .before .before .before .before .before .before .before .pre .1 .1) (c .before .before .before .before .at-program .ensures) (c .before .before .collect .ensures)
+returns c = program-kept (namesOf (c .before .before .before .before .before .before .before .before .before .args .names .now) (c .before .before .before .before .before .before .before .before .before .args .text .now)) (switchesOf (c .before .before .before .before .before .before .before .before .before .args .switches)) (c .before .before .before .before .before .before .before .before .before .args .rows .now) (c .before .before .before .before .before .before .before .before .before .pre .1 .1) (c .before .before .before .before .program .ensures) (c .before .before .collect .ensures)
 
 pub make-bindings-spec : {M : Type 1} → statement M
-make-bindings-spec = tie.close (tie.spec at-program-requires collect-requires same-length returns)
+make-bindings-spec = tie.close (tie.spec program-requires collect-requires same-length returns)

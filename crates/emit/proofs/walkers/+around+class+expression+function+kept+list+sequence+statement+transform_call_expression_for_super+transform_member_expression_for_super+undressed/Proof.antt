@@ -1,23 +1,26 @@
 -- The walkers of `emit::walkers` meet their contracts. Assumes nothing.
-use mathlib.Core.Path.{_≡_, ap, sym, subst, _∙_}
+use mathlib.Core.Path.{ap, sym, subst, _∙_}
 use native.Mathlib.Omega.{arith}
-use borrow.Author.Tests.{eq-eqb, ne-eqb}
 use Rattle.rows.specs.Forest.{Rows, Rows.none, Rows.node, size}
-use Rattle.steps.specs.Slots.{wrapped}
 use Rattle.steps.specs.Outcome.{namesOf}
 use Rattle.steps.specs.Bindings.{number}
 use Rattle.passes.specs.declared.Becomes.{Becomes}
 use Rattle.passes.specs.View.{opOf}
-use Rattle.acts.specs.Deciding.{spotOf}
+use Rattle.steps.specs.Context.{Spot}
+use Rattle.plan.specs.Placing.{placeOf}
 use Rattle.plan.specs.Frames.{OpLow}
-use Rattle.output.proofs.Writing.{nest, then, beside, named, size-one}
+use Rattle.output.proofs.Writing.{nest, then, beside, named, leaf, size-one, size-as}
 use Rattle.output.proofs.Shapes.{size-assignment}
 use Rattle.output.proofs.Loops.{all-left}
 use Rattle.emit.specs.Plans.{listOf, inside}
-use Rattle.emit.proofs.Written.{top-join, top-size, statement-plain, statement-assigned, statement-least, assigned-size, sequence-rows, sequence-size, kept-inside, row-rows, row-size, drop-rows, drop-size, name-size, captured-rows, call-rows, call-size, call-row-size, called-rows, called-size, expression-first, statement-test, wrapped-rows, wrapped-size, unwrapped-rows, leaf-next, unnot, flipped, as-called}
+use Rattle.emit.specs.Idents.{thisRow}
+use Rattle.emit.specs.Top.{topRows}
+use Rattle.emit.proofs.Written.{top-join, top-size, statement-plain, statement-assigned, statement-least, assigned-size, sequence-rows, sequence-size, kept-inside, row-rows, row-size, drop-rows, drop-size, name-size, captured-rows, call-rows, call-size, call-row-size, called-rows, called-size, expression-first, statement-test, leaf-next, unnot, flipped, as-called}
+use Rattle.emit.proofs.Unchanged.{planned, unchanged-rows, unchanged-inner, no-children}
+use Rattle.emit.proofs.Dressing.{body-room, inner-room, dressed-written}
 use Rattle.emit.proofs.Lists.{Turning, row-room, row-fewer, turn-on, turn-less, turned}
 use borrow.Author.Needs.{needs}
-use Prim.Native.Nat.{ℕ, _+_, _*_, _-_, _<_, _≤_, _^_}
+use Prim.Native.Nat.{ℕ, _+_, _*_, _-_, _<_}
 use borrow.Fn.Kinds.{In}
 use borrow.Fn.PlainCycle.{Measures, is, falls, and}
 use Rattle.emit.proofs.walkers.around.Reads as around
@@ -53,17 +56,24 @@ use Rattle.emit.proofs.walkers.+around+class+expression+function+kept+l
 use Rattle.emit.proofs.walkers.undressed.Reads as undressed
 use Rattle.emit.proofs.walkers.undressed.Kinds as undressed-kinds
 use Rattle.emit.proofs.walkers.+around+class+expression+function+kept+list+sequence+statement+transform_call_expression_for_super+transform_member_expression_for_super+undressed.Lts-undressed as undressed-lts
+use Rattle.emit.proofs.bodies.close_body.Reads as close-body-reads
+use Rattle.emit.proofs.bodies.open_body.Reads as open-body-reads
 use Rattle.emit.proofs.identifiers.accessor_identifier.Reads as accessor-identifier-reads
 use Rattle.emit.proofs.identifiers.captured_identifier.Reads as captured-identifier-reads
 use Rattle.emit.proofs.identifiers.get_this_identifier.Reads as get-this-identifier-reads
+use Rattle.emit.proofs.plans.along.Reads as along-reads
 use Rattle.emit.proofs.plans.is_class.Reads as is-class-reads
 use Rattle.emit.proofs.plans.is_function.Reads as is-function-reads
 use Rattle.emit.proofs.plans.is_statement.Reads as is-statement-reads
 use Rattle.emit.proofs.plans.plan_at.Reads as plan-at-reads
+use Rattle.emit.proofs.plans.stays_at.Reads as stays-at-reads
+use Rattle.emit.proofs.plans.words_at.Reads as words-at-reads
 use Rattle.emit.proofs.top.insert_at_the_top.Reads as insert-at-the-top-reads
 use Rattle.output.proofs.append.Reads as append-reads
 use Rattle.output.proofs.inserted.assignment.Reads as assignment-reads
 use Rattle.output.proofs.patch_end.Reads as patch-end-reads
+use Rattle.plan.proofs.place.Place.spot.Reads as spot-reads
+use Rattle.plan.proofs.place.Place.this_at.Reads as this-at-reads
 use Rattle.emit.proofs.walkers.+around+class+expression+function+kept+list+sequence+statement+transform_call_expression_for_super+transform_member_expression_for_super+undressed.{
   statement,
 }
@@ -219,16 +229,16 @@ abbrev class-claims : ℕ → class-lts.Claims
 class-claims t = (around-below t, around.Post)
 
 abbrev expression-claims : ℕ → expression-lts.Claims
-expression-claims t = (append-reads.Asked, append-reads.Learnt, undressed-below t, undressed.Post, patch-end-reads.Asked, patch-end-reads.Learnt)
+expression-claims t = (open-body-reads.Asked, open-body-reads.Learnt, undressed-below t, undressed.Post, close-body-reads.Asked, close-body-reads.Learnt)
 
 abbrev function-claims : ℕ → function-lts.Claims
-function-claims t = (append-reads.Asked, append-reads.Learnt, insert-at-the-top-reads.Asked, insert-at-the-top-reads.Learnt, list-below t, list.Post, patch-end-reads.Asked, patch-end-reads.Learnt)
+function-claims t = (append-reads.Asked, append-reads.Learnt, this-at-reads.Asked, this-at-reads.Learnt, insert-at-the-top-reads.Asked, insert-at-the-top-reads.Learnt, list-below t, list.Post, patch-end-reads.Asked, patch-end-reads.Learnt)
 
 abbrev kept-claims : ℕ → kept-lts.Claims
 kept-claims t = (is-function-reads.Asked, is-function-reads.Learnt, function-below t, function.Post, is-class-reads.Asked, is-class-reads.Learnt, class-below t, class.Post, around-below t, around.Post)
 
 abbrev list-claims : ℕ → list-lts.Claims
-list-claims t = (plan-at-reads.Asked, plan-at-reads.Learnt, is-statement-reads.Asked, is-statement-reads.Learnt, statement-below t, statement′.Post, expression-below t, expression.Post)
+list-claims t = (stays-at-reads.Asked, stays-at-reads.Learnt, words-at-reads.Asked, words-at-reads.Learnt, along-reads.Asked, along-reads.Learnt, around-below t, around.Post, plan-at-reads.Asked, plan-at-reads.Learnt, is-statement-reads.Asked, is-statement-reads.Learnt, statement-below t, statement′.Post, expression-below t, expression.Post)
 
 abbrev sequence-claims : ℕ → sequence-lts.Claims
 sequence-claims t = (append-reads.Asked, append-reads.Learnt, around-below t, around.Post, assignment-reads.Asked, assignment-reads.Learnt, patch-end-reads.Asked, patch-end-reads.Learnt)
@@ -237,7 +247,7 @@ abbrev statement-claims : ℕ → statement-lts.Claims
 statement-claims t = (around-below t, around.Post, append-reads.Asked, append-reads.Learnt, assignment-reads.Asked, assignment-reads.Learnt, patch-end-reads.Asked, patch-end-reads.Learnt)
 
 abbrev transform-call-expression-for-super-claims : ℕ → transform-call-expression-for-super-lts.Claims
-transform-call-expression-for-super-claims t = (append-reads.Asked, append-reads.Learnt, transform-member-expression-for-super-below t, transform-member-expression-for-super.Post, patch-end-reads.Asked, patch-end-reads.Learnt, get-this-identifier-reads.Asked, get-this-identifier-reads.Learnt)
+transform-call-expression-for-super-claims t = (append-reads.Asked, append-reads.Learnt, transform-member-expression-for-super-below t, transform-member-expression-for-super.Post, patch-end-reads.Asked, patch-end-reads.Learnt, spot-reads.Asked, spot-reads.Learnt, get-this-identifier-reads.Asked, get-this-identifier-reads.Learnt)
 
 abbrev transform-member-expression-for-super-claims : ℕ → transform-member-expression-for-super-lts.Claims
 transform-member-expression-for-super-claims t = (append-reads.Asked, append-reads.Learnt, accessor-identifier-reads.Asked, accessor-identifier-reads.Learnt, list-below t, list.Post, patch-end-reads.Asked, patch-end-reads.Learnt)
@@ -254,23 +264,47 @@ around-cast-append-2 t c = search needs
 around-cast-append-3 : (t : ℕ) → around-lts.Need-cast-append-3 (around-claims t) (around-at t) around.Post
 around-cast-append-3 t c = search needs
 
+around-add-append : (t : ℕ) → around-lts.Need-add-append (around-claims t) (around-at t) around.Post
+around-add-append t c = let h = c .before .before .before .before .before .before .before .before .before .before .before .pre .1 .1 .1 in omega arith
+
+around-cast-append-4 : (t : ℕ) → around-lts.Need-cast-append-4 (around-claims t) (around-at t) around.Post
+around-cast-append-4 t c = let h = c .before .before .before .before .before .before .before .before .before .before .before .pre .1 .1 .1 in omega arith
+
 around-append-requires : (t : ℕ) → around-lts.Need-append-requires (around-claims t) (around-at t) around.Post
-around-append-requires t c κs = search needs
-
-around-list-requires : (t : ℕ) → around-lts.Need-list-requires (around-claims t) (around-at t) around.Post
-around-list-requires t c κs = (let m = c .before .before .before .before .before .before .before .before .before .before .before .before .before .pre .0 in omega arith, (c .before .before .before .before .before .before .before .before .before .before .before .before .before .pre .1 .0, let h0 = c .before .before .before .append .ensures .next in let h1 = c .before .before .before .before .before .before .before .before .before .before .before .before .before .pre .1 .1 .1 in omega arith))
-
-around-cast-patch-end : (t : ℕ) → around-lts.Need-cast-patch-end (around-claims t) (around-at t) around.Post
-around-cast-patch-end t c = search needs
-
-around-patch-end-requires : (t : ℕ) → around-lts.Need-patch-end-requires (around-claims t) (around-at t) around.Post
-around-patch-end-requires t c κs = search needs
+around-append-requires t c κs = let h = c .before .before .before .before .before .before .before .before .before .before .before .pre .1 .1 .1 in omega arith
 
 around-same-length : (t : ℕ) → around-lts.Need-same-length (around-claims t) (around-at t) around.Post
 around-same-length t c = search needs
 
 around-returns : (t : ℕ) → around-lts.Need-returns (around-claims t) (around-at t) around.Post
-around-returns t c = nest (c .before .before .before .before .before .before .before .before .before .before .append .ensures) (c .before .before .before .before .before .before .list .ensures) (c .before .before .patch-end .ensures)
+around-returns t c = rw (no-children (c .before .before .before .before .before .before .before .before .before .before .before .before .before .before .args .rows .now) (c .before .before .before .before .before .before .before .before .before .before .before .before .before .before .args .names .now) (c .before .before .before .before .before .before .before .before .before .before .before .before .before .before .args .text .now) (c .before .before .before .before .before .before .before .before .before .before .before .before .before .before .args .made .now) (c .before .before .before .before .before .before .before .before .before .before .before .before .before .before .args .walk) (c .before .before .before .before .before .before .before .before .before .before .before .before .before .before .args .inner) (c .before .before .before .before .before .before .before .if1 .taken)) (leaf (c .before .before .append .ensures))
+
+around-cast-append-5 : (t : ℕ) → around-lts.Need-cast-append-5 (around-claims t) (around-at t) around.Post
+around-cast-append-5 t c = search needs
+
+around-cast-append-6 : (t : ℕ) → around-lts.Need-cast-append-6 (around-claims t) (around-at t) around.Post
+around-cast-append-6 t c = search needs
+
+around-cast-append-7 : (t : ℕ) → around-lts.Need-cast-append-7 (around-claims t) (around-at t) around.Post
+around-cast-append-7 t c = search needs
+
+around-append-requires-2 : (t : ℕ) → around-lts.Need-append-requires-2 (around-claims t) (around-at t) around.Post
+around-append-requires-2 t c κs = search needs
+
+around-list-requires : (t : ℕ) → around-lts.Need-list-requires (around-claims t) (around-at t) around.Post
+around-list-requires t c κs = (let m = c .before .before .before .before .before .before .before .before .before .before .before .before .before .before .before .pre .0 in omega arith, (c .before .before .before .before .before .before .before .before .before .before .before .before .before .before .before .pre .1 .0, let h0 = c .before .before .before .append2 .ensures .next in let h1 = c .before .before .before .before .before .before .before .before .before .before .before .before .before .before .before .pre .1 .1 .1 in omega arith))
+
+around-cast-patch-end : (t : ℕ) → around-lts.Need-cast-patch-end (around-claims t) (around-at t) around.Post
+around-cast-patch-end t c = let a = c .before .before .before .before .before .before .before .append2 .ensures .next in let l = c .before .before .before .list .ensures .next in let h = c .before .before .before .before .before .before .before .before .before .before .before .before .before .before .before .before .before .before .before .pre .1 .1 .1 in omega arith
+
+around-patch-end-requires : (t : ℕ) → around-lts.Need-patch-end-requires (around-claims t) (around-at t) around.Post
+around-patch-end-requires t c κs = let a = c .before .before .before .before .before .before .before .append2 .ensures .next in let l = c .before .before .before .list .ensures .next in let h = c .before .before .before .before .before .before .before .before .before .before .before .before .before .before .before .before .before .before .before .pre .1 .1 .1 in omega arith
+
+around-same-length-2 : (t : ℕ) → around-lts.Need-same-length-2 (around-claims t) (around-at t) around.Post
+around-same-length-2 t c = search needs
+
+around-returns-2 : (t : ℕ) → around-lts.Need-returns-2 (around-claims t) (around-at t) around.Post
+around-returns-2 t c = nest (c .before .before .before .before .before .before .before .before .before .before .append2 .ensures) (c .before .before .before .before .before .before .list .ensures) (c .before .before .patch-end .ensures)
 
 class-around-requires :
     (t : ℕ) → class-lts.Need-around-requires (class-claims t) (class-at t) class.Post
@@ -284,41 +318,23 @@ class-returns :
     (t : ℕ) → class-lts.Need-returns (class-claims t) (class-at t) class.Post
 class-returns t c = search needs
 
-expression-append-requires : (t : ℕ) → expression-lts.Need-append-requires (expression-claims t) (expression-at t) expression.Post
-expression-append-requires t c κs = search needs
-
-expression-append-requires-2 : (t : ℕ) → expression-lts.Need-append-requires-2 (expression-claims t) (expression-at t) expression.Post
-expression-append-requires-2 t c κs = let h0 = wrapped-size (c .before .before .before .before .before .before .before .before .before .before .before .before .args .rows .now) (c .before .before .before .before .before .before .before .before .before .before .before .before .args .names .now) (c .before .before .before .before .before .before .before .before .before .before .before .before .args .text .now) (c .before .before .before .before .before .before .before .before .before .before .before .before .args .made .now) (c .before .before .before .before .before .before .before .before .before .before .before .before .args .walk) (c .before .before .before .before .before .before .before .before .before .before .before .before .args .plan) (eq-eqb (c .before .before .before .before .before .before .before .before .before .before .before .before .args .plan .spot .slot) wrapped (c .before .before .before .before .before .if1 .taken)) in let h1 = c .before .before .before .before .before .before .before .before .before .before .before .before .pre .1 .1 .1 in let h2 = c .before .before .before .append .ensures .next in omega arith
+expression-open-body-requires : (t : ℕ) → expression-lts.Need-open-body-requires (expression-claims t) (expression-at t) expression.Post
+expression-open-body-requires t c κs = body-room (c .before .before .before .before .before .before .before .args .rows .now) (c .before .before .before .before .before .before .before .args .names .now) (c .before .before .before .before .before .before .before .args .text .now) (c .before .before .before .before .before .before .before .args .made .now) (c .before .before .before .before .before .before .before .args .walk) (c .before .before .before .before .before .before .before .args .plan) (c .before .before .before .before .before .before .before .args .at) (c .before .before .before .before .before .before .before .pre .1 .1 .1)
 
 expression-undressed-requires : (t : ℕ) → expression-lts.Need-undressed-requires (expression-claims t) (expression-at t) expression.Post
-expression-undressed-requires t c κs = (let m = c .before .before .before .before .before .before .before .before .before .before .before .before .before .before .before .before .pre .0 in omega arith, (c .before .before .before .before .before .before .before .before .before .before .before .before .before .before .before .before .pre .1 .0, (c .before .before .before .before .before .before .before .before .before .before .before .before .before .before .before .before .pre .1 .1 .0, let h0 = wrapped-size (c .before .before .before .before .before .before .before .before .before .before .before .before .before .before .before .before .args .rows .now) (c .before .before .before .before .before .before .before .before .before .before .before .before .before .before .before .before .args .names .now) (c .before .before .before .before .before .before .before .before .before .before .before .before .before .before .before .before .args .text .now) (c .before .before .before .before .before .before .before .before .before .before .before .before .before .before .before .before .args .made .now) (c .before .before .before .before .before .before .before .before .before .before .before .before .before .before .before .before .args .walk) (c .before .before .before .before .before .before .before .before .before .before .before .before .before .before .before .before .args .plan) (eq-eqb (c .before .before .before .before .before .before .before .before .before .before .before .before .before .before .before .before .args .plan .spot .slot) wrapped (c .before .before .before .before .before .before .before .before .before .if1 .taken)) in let h1 = c .before .before .before .before .before .before .before .before .before .before .before .before .before .before .before .before .pre .1 .1 .1 in let h2 = c .before .before .before .before .before .before .before .append .ensures .next in let h3 = c .before .before .before .append2 .ensures .next in omega arith)))
+expression-undressed-requires t c κs = (let m = c .before .before .before .before .before .before .before .before .before .before .before .pre .0 in omega arith, (c .before .before .before .before .before .before .before .before .before .before .before .pre .1 .0, (c .before .before .before .before .before .before .before .before .before .before .before .pre .1 .1 .0, inner-room (c .before .before .before .before .before .before .before .before .before .before .before .args .rows .now) (c .before .before .before .before .before .before .before .before .before .before .before .args .names .now) (c .before .before .before .before .before .before .before .before .before .before .before .args .text .now) (c .before .before .before .before .before .before .before .before .before .before .before .args .made .now) (c .before .before .before .before .before .before .before .before .before .before .before .args .walk) (c .before .before .before .before .before .before .before .before .before .before .before .args .plan) (c .before .before .before .before .before .before .before .before .before .before .before .args .at) (c .before .before .before .before .before .before .before .before .before .before .before .pre .1 .1 .1) (c .before .before .before .open-body .ensures .0))))
 
-expression-cast-patch-end : (t : ℕ) → expression-lts.Need-cast-patch-end (expression-claims t) (expression-at t) expression.Post
-expression-cast-patch-end t c = let h0 = wrapped-size (c .before .before .before .before .before .before .before .before .before .before .before .before .before .before .before .before .before .before .before .before .args .rows .now) (c .before .before .before .before .before .before .before .before .before .before .before .before .before .before .before .before .before .before .before .before .args .names .now) (c .before .before .before .before .before .before .before .before .before .before .before .before .before .before .before .before .before .before .before .before .args .text .now) (c .before .before .before .before .before .before .before .before .before .before .before .before .before .before .before .before .before .before .before .before .args .made .now) (c .before .before .before .before .before .before .before .before .before .before .before .before .before .before .before .before .before .before .before .before .args .walk) (c .before .before .before .before .before .before .before .before .before .before .before .before .before .before .before .before .before .before .before .before .args .plan) (eq-eqb (c .before .before .before .before .before .before .before .before .before .before .before .before .before .before .before .before .before .before .before .before .args .plan .spot .slot) wrapped (c .before .before .before .before .before .before .before .before .before .before .before .before .before .if1 .taken)) in let h1 = c .before .before .before .before .before .before .before .before .before .before .before .before .before .before .before .before .before .before .before .before .pre .1 .1 .1 in let h2 = c .before .before .before .before .before .before .before .before .before .before .before .append .ensures .next in let h3 = c .before .before .before .before .before .before .before .append2 .ensures .next in let h4 = c .before .before .before .undressed .ensures .next in omega arith
+expression-cast-close-body : (t : ℕ) → expression-lts.Need-cast-close-body (expression-claims t) (expression-at t) expression.Post
+expression-cast-close-body t c = let a = inner-room (c .before .before .before .before .before .before .before .before .before .before .before .before .before .before .before .args .rows .now) (c .before .before .before .before .before .before .before .before .before .before .before .before .before .before .before .args .names .now) (c .before .before .before .before .before .before .before .before .before .before .before .before .before .before .before .args .text .now) (c .before .before .before .before .before .before .before .before .before .before .before .before .before .before .before .args .made .now) (c .before .before .before .before .before .before .before .before .before .before .before .before .before .before .before .args .walk) (c .before .before .before .before .before .before .before .before .before .before .before .before .before .before .before .args .plan) (c .before .before .before .before .before .before .before .before .before .before .before .before .before .before .before .args .at) (c .before .before .before .before .before .before .before .before .before .before .before .before .before .before .before .pre .1 .1 .1) (c .before .before .before .before .before .before .before .open-body .ensures .0) in let b = c .before .before .before .undressed .ensures .next in omega arith
 
-expression-patch-end-requires : (t : ℕ) → expression-lts.Need-patch-end-requires (expression-claims t) (expression-at t) expression.Post
-expression-patch-end-requires t c κs = let h0 = wrapped-size (c .before .before .before .before .before .before .before .before .before .before .before .before .before .before .before .before .before .before .before .before .args .rows .now) (c .before .before .before .before .before .before .before .before .before .before .before .before .before .before .before .before .before .before .before .before .args .names .now) (c .before .before .before .before .before .before .before .before .before .before .before .before .before .before .before .before .before .before .before .before .args .text .now) (c .before .before .before .before .before .before .before .before .before .before .before .before .before .before .before .before .before .before .before .before .args .made .now) (c .before .before .before .before .before .before .before .before .before .before .before .before .before .before .before .before .before .before .before .before .args .walk) (c .before .before .before .before .before .before .before .before .before .before .before .before .before .before .before .before .before .before .before .before .args .plan) (eq-eqb (c .before .before .before .before .before .before .before .before .before .before .before .before .before .before .before .before .before .before .before .before .args .plan .spot .slot) wrapped (c .before .before .before .before .before .before .before .before .before .before .before .before .before .if1 .taken)) in let h1 = c .before .before .before .before .before .before .before .before .before .before .before .before .before .before .before .before .before .before .before .before .pre .1 .1 .1 in let h2 = c .before .before .before .before .before .before .before .before .before .before .before .append .ensures .next in let h3 = c .before .before .before .before .before .before .before .append2 .ensures .next in let h4 = c .before .before .before .undressed .ensures .next in omega arith
-
-expression-cast-patch-end-2 : (t : ℕ) → expression-lts.Need-cast-patch-end-2 (expression-claims t) (expression-at t) expression.Post
-expression-cast-patch-end-2 t c = let h0 = wrapped-size (c .before .before .before .before .before .before .before .before .before .before .before .before .before .before .before .before .before .before .before .before .before .before .before .before .args .rows .now) (c .before .before .before .before .before .before .before .before .before .before .before .before .before .before .before .before .before .before .before .before .before .before .before .before .args .names .now) (c .before .before .before .before .before .before .before .before .before .before .before .before .before .before .before .before .before .before .before .before .before .before .before .before .args .text .now) (c .before .before .before .before .before .before .before .before .before .before .before .before .before .before .before .before .before .before .before .before .before .before .before .before .args .made .now) (c .before .before .before .before .before .before .before .before .before .before .before .before .before .before .before .before .before .before .before .before .before .before .before .before .args .walk) (c .before .before .before .before .before .before .before .before .before .before .before .before .before .before .before .before .before .before .before .before .before .before .before .before .args .plan) (eq-eqb (c .before .before .before .before .before .before .before .before .before .before .before .before .before .before .before .before .before .before .before .before .before .before .before .before .args .plan .spot .slot) wrapped (c .before .before .before .before .before .before .before .before .before .before .before .before .before .before .before .before .before .if1 .taken)) in let h1 = c .before .before .before .before .before .before .before .before .before .before .before .before .before .before .before .before .before .before .before .before .before .before .before .before .pre .1 .1 .1 in let h2 = c .before .before .before .before .before .before .before .before .before .before .before .before .before .before .before .append .ensures .next in let h3 = c .before .before .before .before .before .before .before .before .before .before .before .append2 .ensures .next in let h4 = c .before .before .before .before .before .before .before .undressed .ensures .next in omega arith
-
-expression-patch-end-requires-2 : (t : ℕ) → expression-lts.Need-patch-end-requires-2 (expression-claims t) (expression-at t) expression.Post
-expression-patch-end-requires-2 t c κs = let h0 = wrapped-size (c .before .before .before .before .before .before .before .before .before .before .before .before .before .before .before .before .before .before .before .before .before .before .before .before .args .rows .now) (c .before .before .before .before .before .before .before .before .before .before .before .before .before .before .before .before .before .before .before .before .before .before .before .before .args .names .now) (c .before .before .before .before .before .before .before .before .before .before .before .before .before .before .before .before .before .before .before .before .before .before .before .before .args .text .now) (c .before .before .before .before .before .before .before .before .before .before .before .before .before .before .before .before .before .before .before .before .before .before .before .before .args .made .now) (c .before .before .before .before .before .before .before .before .before .before .before .before .before .before .before .before .before .before .before .before .before .before .before .before .args .walk) (c .before .before .before .before .before .before .before .before .before .before .before .before .before .before .before .before .before .before .before .before .before .before .before .before .args .plan) (eq-eqb (c .before .before .before .before .before .before .before .before .before .before .before .before .before .before .before .before .before .before .before .before .before .before .before .before .args .plan .spot .slot) wrapped (c .before .before .before .before .before .before .before .before .before .before .before .before .before .before .before .before .before .if1 .taken)) in let h1 = c .before .before .before .before .before .before .before .before .before .before .before .before .before .before .before .before .before .before .before .before .before .before .before .before .pre .1 .1 .1 in let h2 = c .before .before .before .before .before .before .before .before .before .before .before .before .before .before .before .append .ensures .next in let h3 = c .before .before .before .before .before .before .before .before .before .before .before .append2 .ensures .next in let h4 = c .before .before .before .before .before .before .before .undressed .ensures .next in omega arith
+expression-close-body-requires : (t : ℕ) → expression-lts.Need-close-body-requires (expression-claims t) (expression-at t) expression.Post
+expression-close-body-requires t c κs = body-room (c .before .before .before .before .before .before .before .before .before .before .before .before .before .before .before .args .rows .now) (c .before .before .before .before .before .before .before .before .before .before .before .before .before .before .before .args .names .now) (c .before .before .before .before .before .before .before .before .before .before .before .before .before .before .before .args .text .now) (c .before .before .before .before .before .before .before .before .before .before .before .before .before .before .before .args .made .now) (c .before .before .before .before .before .before .before .before .before .before .before .before .before .before .before .args .walk) (c .before .before .before .before .before .before .before .before .before .before .before .before .before .before .before .args .plan) (c .before .before .before .before .before .before .before .before .before .before .before .before .before .before .before .args .at) (c .before .before .before .before .before .before .before .before .before .before .before .before .before .before .before .pre .1 .1 .1)
 
 expression-same-length : (t : ℕ) → expression-lts.Need-same-length (expression-claims t) (expression-at t) expression.Post
 expression-same-length t c = search needs
 
 expression-returns : (t : ℕ) → expression-lts.Need-returns (expression-claims t) (expression-at t) expression.Post
-expression-returns t c = named (wrapped-rows (c .before .before .before .before .before .before .before .before .before .before .before .before .before .before .before .before .before .before .before .before .before .before .before .before .before .before .before .args .rows .now) (c .before .before .before .before .before .before .before .before .before .before .before .before .before .before .before .before .before .before .before .before .before .before .before .before .before .before .before .args .names .now) (c .before .before .before .before .before .before .before .before .before .before .before .before .before .before .before .before .before .before .before .before .before .before .before .before .before .before .before .args .text .now) (c .before .before .before .before .before .before .before .before .before .before .before .before .before .before .before .before .before .before .before .before .before .before .before .before .before .before .before .args .made .now) (c .before .before .before .before .before .before .before .before .before .before .before .before .before .before .before .before .before .before .before .before .before .before .before .before .before .before .before .args .walk) (c .before .before .before .before .before .before .before .before .before .before .before .before .before .before .before .before .before .before .before .before .before .before .before .before .before .before .before .args .plan) (eq-eqb (c .before .before .before .before .before .before .before .before .before .before .before .before .before .before .before .before .before .before .before .before .before .before .before .before .before .before .before .args .plan .spot .slot) wrapped (c .before .before .before .before .before .before .before .before .before .before .before .before .before .before .before .before .before .before .before .before .if1 .taken))) (nest (c .before .before .before .before .before .before .before .before .before .before .before .before .before .before .before .before .before .before .append .ensures) (nest (c .before .before .before .before .before .before .before .before .before .before .before .before .before .before .append2 .ensures) (c .before .before .before .before .before .before .before .before .before .before .undressed .ensures) (c .before .before .before .before .before .before .patch-end .ensures)) (c .before .before .patch-end2 .ensures))
-
-expression-undressed-requires-2 : (t : ℕ) → expression-lts.Need-undressed-requires-2 (expression-claims t) (expression-at t) expression.Post
-expression-undressed-requires-2 t c κs = (let m = c .before .before .before .before .before .before .before .before .pre .0 in omega arith, (c .before .before .before .before .before .before .before .before .pre .1 .0, (c .before .before .before .before .before .before .before .before .pre .1 .1 .0, let h0 = ap size (unwrapped-rows (c .before .before .before .before .before .before .before .before .args .rows .now) (c .before .before .before .before .before .before .before .before .args .names .now) (c .before .before .before .before .before .before .before .before .args .text .now) (c .before .before .before .before .before .before .before .before .args .made .now) (c .before .before .before .before .before .before .before .before .args .walk) (c .before .before .before .before .before .before .before .before .args .plan) (ne-eqb (c .before .before .before .before .before .before .before .before .args .plan .spot .slot) wrapped (c .before .if1 .left))) in let h1 = c .before .before .before .before .before .before .before .before .pre .1 .1 .1 in omega arith)))
-
-expression-same-length-2 : (t : ℕ) → expression-lts.Need-same-length-2 (expression-claims t) (expression-at t) expression.Post
-expression-same-length-2 t c = search needs
-
-expression-returns-2 : (t : ℕ) → expression-lts.Need-returns-2 (expression-claims t) (expression-at t) expression.Post
-expression-returns-2 t c = named (unwrapped-rows (c .before .before .before .before .before .before .before .before .before .before .before .args .rows .now) (c .before .before .before .before .before .before .before .before .before .before .before .args .names .now) (c .before .before .before .before .before .before .before .before .before .before .before .args .text .now) (c .before .before .before .before .before .before .before .before .before .before .before .args .made .now) (c .before .before .before .before .before .before .before .before .before .before .before .args .walk) (c .before .before .before .before .before .before .before .before .before .before .before .args .plan) (ne-eqb (c .before .before .before .before .before .before .before .before .before .before .before .args .plan .spot .slot) wrapped (c .before .before .before .before .if1 .left))) (c .before .before .undressed2 .ensures)
+expression-returns t c = dressed-written (c .before .before .before .before .before .before .before .before .before .before .before .before .before .before .before .before .before .before .args .rows .now) (c .before .before .before .before .before .before .before .before .before .before .before .before .before .before .before .before .before .before .args .names .now) (c .before .before .before .before .before .before .before .before .before .before .before .before .before .before .before .before .before .before .args .text .now) (c .before .before .before .before .before .before .before .before .before .before .before .before .before .before .before .before .before .before .args .made .now) (c .before .before .before .before .before .before .before .before .before .before .before .before .before .before .before .before .before .before .args .walk) (c .before .before .before .before .before .before .before .before .before .before .before .before .before .before .before .before .before .before .args .plan) (c .before .before .before .before .before .before .before .before .before .before .open-body .ensures .0) (c .before .before .before .before .before .before .before .before .before .before .open-body .ensures .1) (c .before .before .before .before .before .before .undressed .ensures) (c .before .before .close-body .ensures)
 
 function-cast-append : (t : ℕ) → function-lts.Need-cast-append (function-claims t) (function-at t) function.Post
 function-cast-append t c = search needs
@@ -332,23 +348,26 @@ function-cast-append-3 t c = search needs
 function-append-requires : (t : ℕ) → function-lts.Need-append-requires (function-claims t) (function-at t) function.Post
 function-append-requires t c κs = search needs
 
+function-this-at-requires : (t : ℕ) → function-lts.Need-this-at-requires (function-claims t) (function-at t) function.Post
+function-this-at-requires t c κs = search needs
+
 function-insert-at-the-top-requires : (t : ℕ) → function-lts.Need-insert-at-the-top-requires (function-claims t) (function-at t) function.Post
-function-insert-at-the-top-requires t c κs = (record { store = c .before .before .before .before .before .before .before .before .before .before .before .before .before .pre .1 .0 .holds .store; frame-low = c .before .before .before .before .before .before .before .before .before .before .before .before .before .pre .1 .0 .later .this; cap-low = c .before .before .before .before .before .before .before .before .before .before .before .before .before .pre .1 .0 .holds .cap-low }, let h0 = top-size (c .before .before .before .before .before .before .before .before .before .before .before .before .before .args .rows .now) (c .before .before .before .before .before .before .before .before .before .before .before .before .before .args .names .now) (c .before .before .before .before .before .before .before .before .before .before .before .before .before .args .text .now) (c .before .before .before .before .before .before .before .before .before .before .before .before .before .args .made .now) (c .before .before .before .before .before .before .before .before .before .before .before .before .before .args .walk) (c .before .before .before .before .before .before .before .before .before .before .before .before .before .args .slot) (c .before .before .before .before .before .before .before .before .before .before .before .before .before .args .kind) (c .before .before .before .before .before .before .before .before .before .before .before .before .before .args .inner) (c .before .before .before .before .before .before .before .before .before .before .before .before .before .pre .1 .0 .holds .store) (c .before .before .before .before .before .before .before .before .before .before .before .before .before .pre .1 .0 .later .this) in let h1 = c .before .before .before .before .before .before .before .before .before .before .before .before .before .pre .1 .1 .1 in let h2 = c .before .before .before .append .ensures .next in omega arith)
+function-insert-at-the-top-requires t c κs = (record { store = c .before .before .before .before .before .before .before .before .before .before .before .before .before .before .before .pre .1 .0 .holds .store; frame-low = subst (λ (f : ℕ). f < c .before .before .before .before .before .before .before .before .before .before .before .before .before .before .before .args .walk .cap) (sym (c .before .this-at .ensures .0)) (c .before .before .before .before .before .before .before .before .before .before .before .before .before .before .before .pre .1 .0 .later .this); cap-low = c .before .before .before .before .before .before .before .before .before .before .before .before .before .before .before .pre .1 .0 .holds .cap-low }, let h0 = top-size (c .before .before .before .before .before .before .before .before .before .before .before .before .before .before .before .args .rows .now) (c .before .before .before .before .before .before .before .before .before .before .before .before .before .before .before .args .names .now) (c .before .before .before .before .before .before .before .before .before .before .before .before .before .before .before .args .text .now) (c .before .before .before .before .before .before .before .before .before .before .before .before .before .before .before .args .made .now) (c .before .before .before .before .before .before .before .before .before .before .before .before .before .before .before .args .walk) (c .before .before .before .before .before .before .before .before .before .before .before .before .before .before .before .args .slot) (c .before .before .before .before .before .before .before .before .before .before .before .before .before .before .before .args .kind) (c .before .before .before .before .before .before .before .before .before .before .before .before .before .before .before .args .inner) (c .before .before .before .before .before .before .before .before .before .before .before .before .before .before .before .pre .1 .0 .holds .store) (c .before .before .before .before .before .before .before .before .before .before .before .before .before .before .before .pre .1 .0 .later .this) in let h1 = c .before .before .before .before .before .before .before .before .before .before .before .before .before .before .before .pre .1 .1 .1 in let h2 = c .before .before .before .before .before .append .ensures .next in let hT = ap (λ (f : ℕ). size (topRows (c .before .before .before .before .before .before .before .before .before .before .before .before .before .before .before .args .made .now) (c .before .before .before .before .before .before .before .before .before .before .before .before .before .before .before .args .walk) (c .before .before .before .before .before .before .before .before .before .before .before .before .before .before .before .args .slot) (c .before .before .before .before .before .before .before .before .before .before .before .before .before .before .before .args .kind) f)) (c .before .this-at .ensures .0) in omega arith)
 
 function-list-requires : (t : ℕ) → function-lts.Need-list-requires (function-claims t) (function-at t) function.Post
-function-list-requires t c κs = (let m = c .before .before .before .before .before .before .before .before .before .before .before .before .before .before .before .before .before .pre .0 in omega arith, (c .before .before .before .before .before .before .before .before .before .before .before .before .before .before .before .before .before .pre .1 .0, let h0 = top-size (c .before .before .before .before .before .before .before .before .before .before .before .before .before .before .before .before .before .args .rows .now) (c .before .before .before .before .before .before .before .before .before .before .before .before .before .before .before .before .before .args .names .now) (c .before .before .before .before .before .before .before .before .before .before .before .before .before .before .before .before .before .args .text .now) (c .before .before .before .before .before .before .before .before .before .before .before .before .before .before .before .before .before .args .made .now) (c .before .before .before .before .before .before .before .before .before .before .before .before .before .before .before .before .before .args .walk) (c .before .before .before .before .before .before .before .before .before .before .before .before .before .before .before .before .before .args .slot) (c .before .before .before .before .before .before .before .before .before .before .before .before .before .before .before .before .before .args .kind) (c .before .before .before .before .before .before .before .before .before .before .before .before .before .before .before .before .before .args .inner) (c .before .before .before .before .before .before .before .before .before .before .before .before .before .before .before .before .before .pre .1 .0 .holds .store) (c .before .before .before .before .before .before .before .before .before .before .before .before .before .before .before .before .before .pre .1 .0 .later .this) in let h1 = c .before .before .before .before .before .before .before .before .before .before .before .before .before .before .before .before .before .pre .1 .1 .1 in let h2 = c .before .before .before .before .before .before .before .append .ensures .next in let h3 = c .before .before .before .insert-at-the-top .ensures .next in omega arith))
+function-list-requires t c κs = (let m = c .before .before .before .before .before .before .before .before .before .before .before .before .before .before .before .before .before .before .before .pre .0 in omega arith, (c .before .before .before .before .before .before .before .before .before .before .before .before .before .before .before .before .before .before .before .pre .1 .0, let h0 = top-size (c .before .before .before .before .before .before .before .before .before .before .before .before .before .before .before .before .before .before .before .args .rows .now) (c .before .before .before .before .before .before .before .before .before .before .before .before .before .before .before .before .before .before .before .args .names .now) (c .before .before .before .before .before .before .before .before .before .before .before .before .before .before .before .before .before .before .before .args .text .now) (c .before .before .before .before .before .before .before .before .before .before .before .before .before .before .before .before .before .before .before .args .made .now) (c .before .before .before .before .before .before .before .before .before .before .before .before .before .before .before .before .before .before .before .args .walk) (c .before .before .before .before .before .before .before .before .before .before .before .before .before .before .before .before .before .before .before .args .slot) (c .before .before .before .before .before .before .before .before .before .before .before .before .before .before .before .before .before .before .before .args .kind) (c .before .before .before .before .before .before .before .before .before .before .before .before .before .before .before .before .before .before .before .args .inner) (c .before .before .before .before .before .before .before .before .before .before .before .before .before .before .before .before .before .before .before .pre .1 .0 .holds .store) (c .before .before .before .before .before .before .before .before .before .before .before .before .before .before .before .before .before .before .before .pre .1 .0 .later .this) in let h1 = c .before .before .before .before .before .before .before .before .before .before .before .before .before .before .before .before .before .before .before .pre .1 .1 .1 in let h2 = c .before .before .before .before .before .before .before .before .before .append .ensures .next in let h3 = c .before .before .before .insert-at-the-top .ensures .next in let hT = ap (λ (f : ℕ). size (topRows (c .before .before .before .before .before .before .before .before .before .before .before .before .before .before .before .before .before .before .before .args .made .now) (c .before .before .before .before .before .before .before .before .before .before .before .before .before .before .before .before .before .before .before .args .walk) (c .before .before .before .before .before .before .before .before .before .before .before .before .before .before .before .before .before .before .before .args .slot) (c .before .before .before .before .before .before .before .before .before .before .before .before .before .before .before .before .before .before .before .args .kind) f)) (c .before .before .before .before .before .this-at .ensures .0) in omega arith))
 
 function-cast-patch-end : (t : ℕ) → function-lts.Need-cast-patch-end (function-claims t) (function-at t) function.Post
-function-cast-patch-end t c = let h0 = top-size (c .before .before .before .before .before .before .before .before .before .before .before .before .before .before .before .before .before .before .before .before .before .args .rows .now) (c .before .before .before .before .before .before .before .before .before .before .before .before .before .before .before .before .before .before .before .before .before .args .names .now) (c .before .before .before .before .before .before .before .before .before .before .before .before .before .before .before .before .before .before .before .before .before .args .text .now) (c .before .before .before .before .before .before .before .before .before .before .before .before .before .before .before .before .before .before .before .before .before .args .made .now) (c .before .before .before .before .before .before .before .before .before .before .before .before .before .before .before .before .before .before .before .before .before .args .walk) (c .before .before .before .before .before .before .before .before .before .before .before .before .before .before .before .before .before .before .before .before .before .args .slot) (c .before .before .before .before .before .before .before .before .before .before .before .before .before .before .before .before .before .before .before .before .before .args .kind) (c .before .before .before .before .before .before .before .before .before .before .before .before .before .before .before .before .before .before .before .before .before .args .inner) (c .before .before .before .before .before .before .before .before .before .before .before .before .before .before .before .before .before .before .before .before .before .pre .1 .0 .holds .store) (c .before .before .before .before .before .before .before .before .before .before .before .before .before .before .before .before .before .before .before .before .before .pre .1 .0 .later .this) in let h1 = c .before .before .before .before .before .before .before .before .before .before .before .before .before .before .before .before .before .before .before .before .before .pre .1 .1 .1 in let h2 = c .before .before .before .before .before .before .before .before .before .before .before .append .ensures .next in let h3 = c .before .before .before .before .before .before .before .insert-at-the-top .ensures .next in let h4 = c .before .before .before .list .ensures .next in omega arith
+function-cast-patch-end t c = let h0 = top-size (c .before .before .before .before .before .before .before .before .before .before .before .before .before .before .before .before .before .before .before .before .before .before .before .args .rows .now) (c .before .before .before .before .before .before .before .before .before .before .before .before .before .before .before .before .before .before .before .before .before .before .before .args .names .now) (c .before .before .before .before .before .before .before .before .before .before .before .before .before .before .before .before .before .before .before .before .before .before .before .args .text .now) (c .before .before .before .before .before .before .before .before .before .before .before .before .before .before .before .before .before .before .before .before .before .before .before .args .made .now) (c .before .before .before .before .before .before .before .before .before .before .before .before .before .before .before .before .before .before .before .before .before .before .before .args .walk) (c .before .before .before .before .before .before .before .before .before .before .before .before .before .before .before .before .before .before .before .before .before .before .before .args .slot) (c .before .before .before .before .before .before .before .before .before .before .before .before .before .before .before .before .before .before .before .before .before .before .before .args .kind) (c .before .before .before .before .before .before .before .before .before .before .before .before .before .before .before .before .before .before .before .before .before .before .before .args .inner) (c .before .before .before .before .before .before .before .before .before .before .before .before .before .before .before .before .before .before .before .before .before .before .before .pre .1 .0 .holds .store) (c .before .before .before .before .before .before .before .before .before .before .before .before .before .before .before .before .before .before .before .before .before .before .before .pre .1 .0 .later .this) in let h1 = c .before .before .before .before .before .before .before .before .before .before .before .before .before .before .before .before .before .before .before .before .before .before .before .pre .1 .1 .1 in let h2 = c .before .before .before .before .before .before .before .before .before .before .before .before .before .append .ensures .next in let h3 = c .before .before .before .before .before .before .before .insert-at-the-top .ensures .next in let h4 = c .before .before .before .list .ensures .next in let hT = ap (λ (f : ℕ). size (topRows (c .before .before .before .before .before .before .before .before .before .before .before .before .before .before .before .before .before .before .before .before .before .before .before .args .made .now) (c .before .before .before .before .before .before .before .before .before .before .before .before .before .before .before .before .before .before .before .before .before .before .before .args .walk) (c .before .before .before .before .before .before .before .before .before .before .before .before .before .before .before .before .before .before .before .before .before .before .before .args .slot) (c .before .before .before .before .before .before .before .before .before .before .before .before .before .before .before .before .before .before .before .before .before .before .before .args .kind) f)) (c .before .before .before .before .before .before .before .before .before .this-at .ensures .0) in omega arith
 
 function-patch-end-requires : (t : ℕ) → function-lts.Need-patch-end-requires (function-claims t) (function-at t) function.Post
-function-patch-end-requires t c κs = let h0 = top-size (c .before .before .before .before .before .before .before .before .before .before .before .before .before .before .before .before .before .before .before .before .before .args .rows .now) (c .before .before .before .before .before .before .before .before .before .before .before .before .before .before .before .before .before .before .before .before .before .args .names .now) (c .before .before .before .before .before .before .before .before .before .before .before .before .before .before .before .before .before .before .before .before .before .args .text .now) (c .before .before .before .before .before .before .before .before .before .before .before .before .before .before .before .before .before .before .before .before .before .args .made .now) (c .before .before .before .before .before .before .before .before .before .before .before .before .before .before .before .before .before .before .before .before .before .args .walk) (c .before .before .before .before .before .before .before .before .before .before .before .before .before .before .before .before .before .before .before .before .before .args .slot) (c .before .before .before .before .before .before .before .before .before .before .before .before .before .before .before .before .before .before .before .before .before .args .kind) (c .before .before .before .before .before .before .before .before .before .before .before .before .before .before .before .before .before .before .before .before .before .args .inner) (c .before .before .before .before .before .before .before .before .before .before .before .before .before .before .before .before .before .before .before .before .before .pre .1 .0 .holds .store) (c .before .before .before .before .before .before .before .before .before .before .before .before .before .before .before .before .before .before .before .before .before .pre .1 .0 .later .this) in let h1 = c .before .before .before .before .before .before .before .before .before .before .before .before .before .before .before .before .before .before .before .before .before .pre .1 .1 .1 in let h2 = c .before .before .before .before .before .before .before .before .before .before .before .append .ensures .next in let h3 = c .before .before .before .before .before .before .before .insert-at-the-top .ensures .next in let h4 = c .before .before .before .list .ensures .next in omega arith
+function-patch-end-requires t c κs = let h0 = top-size (c .before .before .before .before .before .before .before .before .before .before .before .before .before .before .before .before .before .before .before .before .before .before .before .args .rows .now) (c .before .before .before .before .before .before .before .before .before .before .before .before .before .before .before .before .before .before .before .before .before .before .before .args .names .now) (c .before .before .before .before .before .before .before .before .before .before .before .before .before .before .before .before .before .before .before .before .before .before .before .args .text .now) (c .before .before .before .before .before .before .before .before .before .before .before .before .before .before .before .before .before .before .before .before .before .before .before .args .made .now) (c .before .before .before .before .before .before .before .before .before .before .before .before .before .before .before .before .before .before .before .before .before .before .before .args .walk) (c .before .before .before .before .before .before .before .before .before .before .before .before .before .before .before .before .before .before .before .before .before .before .before .args .slot) (c .before .before .before .before .before .before .before .before .before .before .before .before .before .before .before .before .before .before .before .before .before .before .before .args .kind) (c .before .before .before .before .before .before .before .before .before .before .before .before .before .before .before .before .before .before .before .before .before .before .before .args .inner) (c .before .before .before .before .before .before .before .before .before .before .before .before .before .before .before .before .before .before .before .before .before .before .before .pre .1 .0 .holds .store) (c .before .before .before .before .before .before .before .before .before .before .before .before .before .before .before .before .before .before .before .before .before .before .before .pre .1 .0 .later .this) in let h1 = c .before .before .before .before .before .before .before .before .before .before .before .before .before .before .before .before .before .before .before .before .before .before .before .pre .1 .1 .1 in let h2 = c .before .before .before .before .before .before .before .before .before .before .before .before .before .append .ensures .next in let h3 = c .before .before .before .before .before .before .before .insert-at-the-top .ensures .next in let h4 = c .before .before .before .list .ensures .next in let hT = ap (λ (f : ℕ). size (topRows (c .before .before .before .before .before .before .before .before .before .before .before .before .before .before .before .before .before .before .before .before .before .before .before .args .made .now) (c .before .before .before .before .before .before .before .before .before .before .before .before .before .before .before .before .before .before .before .before .before .before .before .args .walk) (c .before .before .before .before .before .before .before .before .before .before .before .before .before .before .before .before .before .before .before .before .before .before .before .args .slot) (c .before .before .before .before .before .before .before .before .before .before .before .before .before .before .before .before .before .before .before .before .before .before .before .args .kind) f)) (c .before .before .before .before .before .before .before .before .before .this-at .ensures .0) in omega arith
 
 function-same-length : (t : ℕ) → function-lts.Need-same-length (function-claims t) (function-at t) function.Post
 function-same-length t c = search needs
 
 function-returns : (t : ℕ) → function-lts.Need-returns (function-claims t) (function-at t) function.Post
-function-returns t c = named (ap (λ (t : Rows). node (c .before .before .before .before .before .before .before .before .before .before .before .before .before .before .before .before .before .before .before .before .before .before .before .before .args .head .kind) (c .before .before .before .before .before .before .before .before .before .before .before .before .before .before .before .before .before .before .before .before .before .before .before .before .args .head .attr) (c .before .before .before .before .before .before .before .before .before .before .before .before .before .before .before .before .before .before .before .before .before .before .before .before .args .head .name) t none) (top-join (c .before .before .before .before .before .before .before .before .before .before .before .before .before .before .before .before .before .before .before .before .before .before .before .before .args .rows .now) (c .before .before .before .before .before .before .before .before .before .before .before .before .before .before .before .before .before .before .before .before .before .before .before .before .args .names .now) (c .before .before .before .before .before .before .before .before .before .before .before .before .before .before .before .before .before .before .before .before .before .before .before .before .args .text .now) (c .before .before .before .before .before .before .before .before .before .before .before .before .before .before .before .before .before .before .before .before .before .before .before .before .args .made .now) (c .before .before .before .before .before .before .before .before .before .before .before .before .before .before .before .before .before .before .before .before .before .before .before .before .args .walk) (c .before .before .before .before .before .before .before .before .before .before .before .before .before .before .before .before .before .before .before .before .before .before .before .before .args .slot) (c .before .before .before .before .before .before .before .before .before .before .before .before .before .before .before .before .before .before .before .before .before .before .before .before .args .kind) (c .before .before .before .before .before .before .before .before .before .before .before .before .before .before .before .before .before .before .before .before .before .before .before .before .args .inner) (c .before .before .before .before .before .before .before .before .before .before .before .before .before .before .before .before .before .before .before .before .before .before .before .before .pre .1 .0 .holds .store) (c .before .before .before .before .before .before .before .before .before .before .before .before .before .before .before .before .before .before .before .before .before .before .before .before .pre .1 .0 .later .this))) (nest (c .before .before .before .before .before .before .before .before .before .before .before .before .before .before .append .ensures) (then (c .before .before .before .before .before .before .before .before .before .before .insert-at-the-top .ensures) (c .before .before .before .before .before .before .list .ensures)) (c .before .before .patch-end .ensures))
+function-returns t c = named (ap (λ (t : Rows). node (c .before .before .before .before .before .before .before .before .before .before .before .before .before .before .before .before .before .before .before .before .before .before .before .before .before .before .args .head .kind) (c .before .before .before .before .before .before .before .before .before .before .before .before .before .before .before .before .before .before .before .before .before .before .before .before .before .before .args .head .attr) (c .before .before .before .before .before .before .before .before .before .before .before .before .before .before .before .before .before .before .before .before .before .before .before .before .before .before .args .head .name) t none) (top-join (c .before .before .before .before .before .before .before .before .before .before .before .before .before .before .before .before .before .before .before .before .before .before .before .before .before .before .args .rows .now) (c .before .before .before .before .before .before .before .before .before .before .before .before .before .before .before .before .before .before .before .before .before .before .before .before .before .before .args .names .now) (c .before .before .before .before .before .before .before .before .before .before .before .before .before .before .before .before .before .before .before .before .before .before .before .before .before .before .args .text .now) (c .before .before .before .before .before .before .before .before .before .before .before .before .before .before .before .before .before .before .before .before .before .before .before .before .before .before .args .made .now) (c .before .before .before .before .before .before .before .before .before .before .before .before .before .before .before .before .before .before .before .before .before .before .before .before .before .before .args .walk) (c .before .before .before .before .before .before .before .before .before .before .before .before .before .before .before .before .before .before .before .before .before .before .before .before .before .before .args .slot) (c .before .before .before .before .before .before .before .before .before .before .before .before .before .before .before .before .before .before .before .before .before .before .before .before .before .before .args .kind) (c .before .before .before .before .before .before .before .before .before .before .before .before .before .before .before .before .before .before .before .before .before .before .before .before .before .before .args .inner) (c .before .before .before .before .before .before .before .before .before .before .before .before .before .before .before .before .before .before .before .before .before .before .before .before .before .before .pre .1 .0 .holds .store) (c .before .before .before .before .before .before .before .before .before .before .before .before .before .before .before .before .before .before .before .before .before .before .before .before .before .before .pre .1 .0 .later .this))) (nest (c .before .before .before .before .before .before .before .before .before .before .before .before .before .before .before .before .append .ensures) (then (named (ap (topRows (c .before .before .before .before .before .before .before .before .before .before .before .before .before .before .before .before .before .before .before .before .before .before .before .before .before .before .args .made .now) (c .before .before .before .before .before .before .before .before .before .before .before .before .before .before .before .before .before .before .before .before .before .before .before .before .before .before .args .walk) (c .before .before .before .before .before .before .before .before .before .before .before .before .before .before .before .before .before .before .before .before .before .before .before .before .before .before .args .slot) (c .before .before .before .before .before .before .before .before .before .before .before .before .before .before .before .before .before .before .before .before .before .before .before .before .before .before .args .kind)) (sym (c .before .before .before .before .before .before .before .before .before .before .before .before .this-at .ensures .0))) (c .before .before .before .before .before .before .before .before .before .before .insert-at-the-top .ensures)) (c .before .before .before .before .before .before .list .ensures)) (c .before .before .patch-end .ensures))
 
 kept-is-function-requires : (t : ℕ) → kept-lts.Need-is-function-requires (kept-claims t) (kept-at t) kept.Post
 kept-is-function-requires t c κs = search needs
@@ -385,7 +404,7 @@ kept-returns-3 t c = named (ap (λ (t : Rows). node (c .before .before .before .
 
 abbrev list-Inv-loop : list-lts.InvT-loop
 list-Inv-loop rows names text made walk out₀ at end bind more i₀ q₀ state₀ next₀ out i q state next =
-    Turning rows names text made walk bind state₀ (spotOf q₀) (spotOf more) i₀ end out₀ at i (spotOf q) state out next
+    Turning rows names text made walk bind state₀ (placeOf q₀) (placeOf more) i₀ end out₀ at i (placeOf q) state out next
 
 abbrev list-μ-loop : list-lts.MeasureT-loop
 list-μ-loop rows names text made walk out₀ at end bind more i₀ q₀ state₀ next₀ out i q state next = end - i
@@ -393,29 +412,47 @@ list-μ-loop rows names text made walk out₀ at end bind more i₀ q₀ state�
 list-loop-holds : (t : ℕ) → list-lts.Need-loop-holds (list-claims t) (list-at t) list.Post list-Inv-loop list-μ-loop
 list-loop-holds t c = record { left = all-left _ _ _; range = c .before .before .before .before .before .before .before .pre .1 .0 .range .range; start = omega arith; low = c .before .before .before .before .before .before .before .pre .1 .0 .first }
 
+list-stays-at-requires : (t : ℕ) → list-lts.Need-stays-at-requires (list-claims t) (list-at t) list.Post list-Inv-loop list-μ-loop
+list-stays-at-requires t c κs = record { bytes = c .before .before .before .before .before .before .before .before .before .pre .1 .0 .range .bytes; few = c .before .before .before .before .before .before .before .before .before .pre .1 .0 .range .few; nested = c .before .before .before .before .before .before .before .before .before .pre .1 .0 .range .nested; row = let h = c .before .loop .inv .range .within in let l = c .loop-test .taken in omega arith }
+
+list-words-at-requires : (t : ℕ) → list-lts.Need-words-at-requires (list-claims t) (list-at t) list.Post list-Inv-loop list-μ-loop
+list-words-at-requires t c κs = let b = c .before .before .before .before .before .before .before .before .before .before .before .pre .1 .0 .range .bytes in let h = c .before .before .before .loop .inv .range .within in let l = c .before .before .loop-test .taken in omega arith
+
+list-along-requires : (t : ℕ) → list-lts.Need-along-requires (list-claims t) (list-at t) list.Post list-Inv-loop list-μ-loop
+list-along-requires t c κs = record { bytes = c .before .before .before .before .before .before .before .before .before .before .before .before .pre .1 .0 .range .bytes; few = c .before .before .before .before .before .before .before .before .before .before .before .before .pre .1 .0 .range .few; nested = c .before .before .before .before .before .before .before .before .before .before .before .before .pre .1 .0 .range .nested; row = let h = c .before .before .before .before .loop .inv .range .within in let l = c .before .before .before .loop-test .taken in omega arith }
+
+list-around-requires : (t : ℕ) → list-lts.Need-around-requires (list-claims t) (list-at t) list.Post list-Inv-loop list-μ-loop
+list-around-requires t c κs = (row-fewer (c .before .before .before .before .before .before .loop .inv) (c .before .before .before .before .before .before .before .before .before .before .before .before .before .before .pre .1 .0 .range .nested) (c .before .before .before .before .before .loop-test .taken) (planned (c .before .before .before .before .before .before .before .before .before .before .before .before .before .before .args .rows .now) (c .before .before .before .before .before .before .before .before .before .before .before .before .before .before .args .names .now) (c .before .before .before .before .before .before .before .before .before .before .before .before .before .before .args .text .now) (c .before .before .before .before .before .before .before .before .before .before .before .before .before .before .args .made .now) (c .before .before .before .before .before .before .before .before .before .before .before .before .before .before .args .walk) (c .before .before .before .before .before .before .before .before .before .before .before .before .before .before .args .siblings .bind) (c .before .before .before .before .before .before .loop .state) (c .before .before .before .before .before .before .loop .q) (c .before .before .before .before .before .before .loop .i) (c .before .before .words-at .result) (c .before .along .result) (c .before .before .before .before .stays-at .ensures (c .before .before .before .if1 .taken)) (c .before .before .words-at .ensures) (c .before .along .ensures)) 1 _ (omega arith) (c .before .before .before .before .before .before .before .before .before .before .before .before .before .before .pre .0), (unchanged-inner (c .before .before .before .before .before .before .before .before .before .before .before .before .before .before .args .rows .now) (c .before .before .before .before .before .before .before .before .before .before .before .before .before .before .args .names .now) (c .before .before .before .before .before .before .before .before .before .before .before .before .before .before .args .text .now) (c .before .before .before .before .before .before .before .before .before .before .before .before .before .before .args .made .now) (c .before .before .before .before .before .before .before .before .before .before .before .before .before .before .args .walk) (c .before .before .before .before .before .before .before .before .before .before .before .before .before .before .args .siblings .bind) (c .before .before .before .before .before .before .loop .state) (c .before .before .before .before .before .before .loop .q) (c .before .before .before .before .before .before .loop .i) (c .before .before .words-at .result) (c .before .along .result) (c .before .before .before .before .stays-at .ensures (c .before .before .before .if1 .taken)) (c .before .before .words-at .ensures) (c .before .along .ensures) (record { bytes = c .before .before .before .before .before .before .before .before .before .before .before .before .before .before .pre .1 .0 .range .bytes; few = c .before .before .before .before .before .before .before .before .before .before .before .before .before .before .pre .1 .0 .range .few; nested = c .before .before .before .before .before .before .before .before .before .before .before .before .before .before .pre .1 .0 .range .nested; row = let h = c .before .before .before .before .before .before .loop .inv .range .within in let l = c .before .before .before .before .before .loop-test .taken in omega arith }) (c .before .before .before .before .before .before .before .before .before .before .before .before .before .before .pre .1 .0 .named) (c .before .before .before .before .before .before .before .before .before .before .before .before .before .before .pre .1 .0 .holds) (c .before .before .before .before .before .before .before .before .before .before .before .before .before .before .pre .1 .0 .bound) (c .before .before .before .before .before .before .loop .inv .low), (c .before .before .words-at .ensures .fit, let r = row-room (c .before .before .before .before .before .before .loop .inv) (c .before .before .before .before .before .before .before .before .before .before .before .before .before .before .pre .1 .0 .range .nested) (c .before .before .before .before .before .loop-test .taken) (planned (c .before .before .before .before .before .before .before .before .before .before .before .before .before .before .args .rows .now) (c .before .before .before .before .before .before .before .before .before .before .before .before .before .before .args .names .now) (c .before .before .before .before .before .before .before .before .before .before .before .before .before .before .args .text .now) (c .before .before .before .before .before .before .before .before .before .before .before .before .before .before .args .made .now) (c .before .before .before .before .before .before .before .before .before .before .before .before .before .before .args .walk) (c .before .before .before .before .before .before .before .before .before .before .before .before .before .before .args .siblings .bind) (c .before .before .before .before .before .before .loop .state) (c .before .before .before .before .before .before .loop .q) (c .before .before .before .before .before .before .loop .i) (c .before .before .words-at .result) (c .before .along .result) (c .before .before .before .before .stays-at .ensures (c .before .before .before .if1 .taken)) (c .before .before .words-at .ensures) (c .before .along .ensures)) (c .before .before .before .before .before .before .before .before .before .before .before .before .before .before .pre .1 .1) in let s = size-as (unchanged-rows (c .before .before .before .before .before .before .before .before .before .before .before .before .before .before .args .rows .now) (c .before .before .before .before .before .before .before .before .before .before .before .before .before .before .args .names .now) (c .before .before .before .before .before .before .before .before .before .before .before .before .before .before .args .text .now) (c .before .before .before .before .before .before .before .before .before .before .before .before .before .before .args .made .now) (c .before .before .before .before .before .before .before .before .before .before .before .before .before .before .args .walk) (c .before .before .before .before .before .before .before .before .before .before .before .before .before .before .args .siblings .bind) (c .before .before .before .before .before .before .loop .state) (c .before .before .before .before .before .before .loop .q) (c .before .before .before .before .before .before .loop .i) (c .before .before .words-at .result) (c .before .along .result) (c .before .before .before .before .stays-at .ensures (c .before .before .before .if1 .taken)) (c .before .before .words-at .ensures) (c .before .along .ensures)) in omega arith)))
+
 list-plan-at-requires : (t : ℕ) → list-lts.Need-plan-at-requires (list-claims t) (list-at t) list.Post list-Inv-loop list-μ-loop
-list-plan-at-requires t c κs = (record { bytes = c .before .before .before .before .before .before .before .before .before .pre .1 .0 .range .bytes; few = c .before .before .before .before .before .before .before .before .before .pre .1 .0 .range .few; nested = c .before .before .before .before .before .before .before .before .before .pre .1 .0 .range .nested; row = let h = c .before .loop .inv .range .within in let l = c .loop-test .taken in omega arith }, (c .before .before .before .before .before .before .before .before .before .pre .1 .0 .named, (c .before .before .before .before .before .before .before .before .before .pre .1 .0 .holds, (c .before .loop .inv .low, c .before .before .before .before .before .before .before .before .before .pre .1 .0 .bound))))
+list-plan-at-requires t c κs = (record { bytes = c .before .before .before .before .before .before .before .before .before .before .before .pre .1 .0 .range .bytes; few = c .before .before .before .before .before .before .before .before .before .before .before .pre .1 .0 .range .few; nested = c .before .before .before .before .before .before .before .before .before .before .before .pre .1 .0 .range .nested; row = let h = c .before .before .before .loop .inv .range .within in let l = c .before .before .loop-test .taken in omega arith }, (c .before .before .before .before .before .before .before .before .before .before .before .pre .1 .0 .named, (c .before .before .before .before .before .before .before .before .before .before .before .pre .1 .0 .holds, (c .before .before .before .loop .inv .low, c .before .before .before .before .before .before .before .before .before .before .before .pre .1 .0 .bound))))
 
 list-is-statement-requires : (t : ℕ) → list-lts.Need-is-statement-requires (list-claims t) (list-at t) list.Post list-Inv-loop list-μ-loop
 list-is-statement-requires t c κs = search needs
 
 list-statement-requires : (t : ℕ) → list-lts.Need-statement-requires (list-claims t) (list-at t) list.Post list-Inv-loop list-μ-loop
-list-statement-requires t c κs = (row-fewer (c .before .before .before .before .before .before .loop .inv) (c .before .before .before .before .before .before .before .before .before .before .before .before .before .before .pre .1 .0 .range .nested) (c .before .before .before .before .before .loop-test .taken) (c .before .before .before .before .plan-at .ensures .0) 3 _ (omega arith) (c .before .before .before .before .before .before .before .before .before .before .before .before .before .before .pre .0), (c .before .before .before .before .plan-at .ensures .1, (statement-test (c .before .before .before .before .plan-at .result .words .kind) (c .before .before .before .before .plan-at .result .spot .slot) (c .before .before .before .is-statement .result) (c .before .before .before .is-statement .ensures) (c .before .if1 .taken), row-room (c .before .before .before .before .before .before .loop .inv) (c .before .before .before .before .before .before .before .before .before .before .before .before .before .before .pre .1 .0 .range .nested) (c .before .before .before .before .before .loop-test .taken) (c .before .before .before .before .plan-at .ensures .0) (c .before .before .before .before .before .before .before .before .before .before .before .before .before .before .pre .1 .1))))
+list-statement-requires t c κs = (row-fewer (c .before .before .before .before .before .before .before .before .loop .inv) (c .before .before .before .before .before .before .before .before .before .before .before .before .before .before .before .before .pre .1 .0 .range .nested) (c .before .before .before .before .before .before .before .loop-test .taken) (c .before .before .before .before .plan-at .ensures .0) 3 _ (omega arith) (c .before .before .before .before .before .before .before .before .before .before .before .before .before .before .before .before .pre .0), (c .before .before .before .before .plan-at .ensures .1, (statement-test (c .before .before .before .before .plan-at .result .words .kind) (c .before .before .before .before .plan-at .result .slot) (c .before .before .before .is-statement .result) (c .before .before .before .is-statement .ensures) (c .before .if2 .taken), row-room (c .before .before .before .before .before .before .before .before .loop .inv) (c .before .before .before .before .before .before .before .before .before .before .before .before .before .before .before .before .pre .1 .0 .range .nested) (c .before .before .before .before .before .before .before .loop-test .taken) (c .before .before .before .before .plan-at .ensures .0) (c .before .before .before .before .before .before .before .before .before .before .before .before .before .before .before .before .pre .1 .1))))
 
 list-expression-requires : (t : ℕ) → list-lts.Need-expression-requires (list-claims t) (list-at t) list.Post list-Inv-loop list-μ-loop
-list-expression-requires t c κs = (row-fewer (c .before .before .before .before .before .before .loop .inv) (c .before .before .before .before .before .before .before .before .before .before .before .before .before .before .pre .1 .0 .range .nested) (c .before .before .before .before .before .loop-test .taken) (c .before .before .before .before .plan-at .ensures .0) 5 _ (omega arith) (c .before .before .before .before .before .before .before .before .before .before .before .before .before .before .pre .0), (c .before .before .before .before .plan-at .ensures .1, (expression-first (c .before .before .before .before .before .before .before .before .before .before .before .before .before .before .args .rows .now) (c .before .before .before .before .before .before .before .before .before .before .before .before .before .before .args .names .now) (c .before .before .before .before .before .before .before .before .before .before .before .before .before .before .args .text .now) (c .before .before .before .before .before .before .before .before .before .before .before .before .before .before .args .made .now) (c .before .before .before .before .before .before .before .before .before .before .before .before .before .before .args .walk) (c .before .before .before .before .plan-at .result) (c .before .before .before .before .plan-at .ensures .1 .formed) (c .before .before .before .is-statement .result) (c .before .before .before .is-statement .ensures) (c .before .if1 .left), row-room (c .before .before .before .before .before .before .loop .inv) (c .before .before .before .before .before .before .before .before .before .before .before .before .before .before .pre .1 .0 .range .nested) (c .before .before .before .before .before .loop-test .taken) (c .before .before .before .before .plan-at .ensures .0) (c .before .before .before .before .before .before .before .before .before .before .before .before .before .before .pre .1 .1))))
+list-expression-requires t c κs = (row-fewer (c .before .before .before .before .before .before .before .before .loop .inv) (c .before .before .before .before .before .before .before .before .before .before .before .before .before .before .before .before .pre .1 .0 .range .nested) (c .before .before .before .before .before .before .before .loop-test .taken) (c .before .before .before .before .plan-at .ensures .0) 5 _ (omega arith) (c .before .before .before .before .before .before .before .before .before .before .before .before .before .before .before .before .pre .0), (c .before .before .before .before .plan-at .ensures .1, (expression-first (c .before .before .before .before .before .before .before .before .before .before .before .before .before .before .before .before .args .rows .now) (c .before .before .before .before .before .before .before .before .before .before .before .before .before .before .before .before .args .names .now) (c .before .before .before .before .before .before .before .before .before .before .before .before .before .before .before .before .args .text .now) (c .before .before .before .before .before .before .before .before .before .before .before .before .before .before .before .before .args .made .now) (c .before .before .before .before .before .before .before .before .before .before .before .before .before .before .before .before .args .walk) (c .before .before .before .before .plan-at .result) (c .before .before .before .before .plan-at .ensures .1 .formed) (c .before .before .before .is-statement .result) (c .before .before .before .is-statement .ensures) (c .before .if2 .left), row-room (c .before .before .before .before .before .before .before .before .loop .inv) (c .before .before .before .before .before .before .before .before .before .before .before .before .before .before .before .before .pre .1 .0 .range .nested) (c .before .before .before .before .before .before .before .loop-test .taken) (c .before .before .before .before .plan-at .ensures .0) (c .before .before .before .before .before .before .before .before .before .before .before .before .before .before .before .before .pre .1 .1))))
 
 list-loop-less : (t : ℕ) → list-lts.Need-loop-less (list-claims t) (list-at t) list.Post list-Inv-loop list-μ-loop
-list-loop-less t c = turn-less (c .before .before .before .before .before .before .before .before .before .loop .inv) (c .before .before .before .before .before .before .before .before .before .before .before .before .before .before .before .before .before .pre .1 .0 .range .nested) (c .before .before .before .before .before .before .before .before .loop-test .taken) (c .before .before .before .before .before .before .before .plan-at .ensures .0)
+list-loop-less t c = turn-less (c .before .before .before .before .before .before .before .before .before .loop .inv) (c .before .before .before .before .before .before .before .before .before .before .before .before .before .before .before .before .before .pre .1 .0 .range .nested) (c .before .before .before .before .before .before .before .before .loop-test .taken) (planned (c .before .before .before .before .before .before .before .before .before .before .before .before .before .before .before .before .before .args .rows .now) (c .before .before .before .before .before .before .before .before .before .before .before .before .before .before .before .before .before .args .names .now) (c .before .before .before .before .before .before .before .before .before .before .before .before .before .before .before .before .before .args .text .now) (c .before .before .before .before .before .before .before .before .before .before .before .before .before .before .before .before .before .args .made .now) (c .before .before .before .before .before .before .before .before .before .before .before .before .before .before .before .before .before .args .walk) (c .before .before .before .before .before .before .before .before .before .before .before .before .before .before .before .before .before .args .siblings .bind) (c .before .before .before .before .before .before .before .before .before .loop .state) (c .before .before .before .before .before .before .before .before .before .loop .q) (c .before .before .before .before .before .before .before .before .before .loop .i) (c .before .before .before .before .before .words-at .result) (c .before .before .before .before .along .result) (c .before .before .before .before .before .before .before .stays-at .ensures (c .before .before .before .before .before .before .if1 .taken)) (c .before .before .before .before .before .words-at .ensures) (c .before .before .before .before .along .ensures))
 
 list-loop-again : (t : ℕ) → list-lts.Need-loop-again (list-claims t) (list-at t) list.Post list-Inv-loop list-μ-loop
-list-loop-again t c = turn-on (c .before .before .before .before .before .before .before .before .before .loop .inv) (c .before .before .before .before .before .before .before .before .before .before .before .before .before .before .before .before .before .pre .1 .0 .range .nested) (c .before .before .before .before .before .before .before .before .loop-test .taken) (c .before .before .before .before .before .before .before .plan-at .ensures .0) (c .before .before .before .before .before .before .before .before .before .before .before .before .before .before .before .before .before .pre .1 .0 .later) (c .before .before .statement .ensures)
+list-loop-again t c = turn-on (c .before .before .before .before .before .before .before .before .before .loop .inv) (c .before .before .before .before .before .before .before .before .before .before .before .before .before .before .before .before .before .pre .1 .0 .range .nested) (c .before .before .before .before .before .before .before .before .loop-test .taken) (planned (c .before .before .before .before .before .before .before .before .before .before .before .before .before .before .before .before .before .args .rows .now) (c .before .before .before .before .before .before .before .before .before .before .before .before .before .before .before .before .before .args .names .now) (c .before .before .before .before .before .before .before .before .before .before .before .before .before .before .before .before .before .args .text .now) (c .before .before .before .before .before .before .before .before .before .before .before .before .before .before .before .before .before .args .made .now) (c .before .before .before .before .before .before .before .before .before .before .before .before .before .before .before .before .before .args .walk) (c .before .before .before .before .before .before .before .before .before .before .before .before .before .before .before .before .before .args .siblings .bind) (c .before .before .before .before .before .before .before .before .before .loop .state) (c .before .before .before .before .before .before .before .before .before .loop .q) (c .before .before .before .before .before .before .before .before .before .loop .i) (c .before .before .before .before .before .words-at .result) (c .before .before .before .before .along .result) (c .before .before .before .before .before .before .before .stays-at .ensures (c .before .before .before .before .before .before .if1 .taken)) (c .before .before .before .before .before .words-at .ensures) (c .before .before .before .before .along .ensures)) (c .before .before .before .before .before .before .before .before .before .before .before .before .before .before .before .before .before .pre .1 .0 .later) (named (unchanged-rows (c .before .before .before .before .before .before .before .before .before .before .before .before .before .before .before .before .before .args .rows .now) (c .before .before .before .before .before .before .before .before .before .before .before .before .before .before .before .before .before .args .names .now) (c .before .before .before .before .before .before .before .before .before .before .before .before .before .before .before .before .before .args .text .now) (c .before .before .before .before .before .before .before .before .before .before .before .before .before .before .before .before .before .args .made .now) (c .before .before .before .before .before .before .before .before .before .before .before .before .before .before .before .before .before .args .walk) (c .before .before .before .before .before .before .before .before .before .before .before .before .before .before .before .before .before .args .siblings .bind) (c .before .before .before .before .before .before .before .before .before .loop .state) (c .before .before .before .before .before .before .before .before .before .loop .q) (c .before .before .before .before .before .before .before .before .before .loop .i) (c .before .before .before .before .before .words-at .result) (c .before .before .before .before .along .result) (c .before .before .before .before .before .before .before .stays-at .ensures (c .before .before .before .before .before .before .if1 .taken)) (c .before .before .before .before .before .words-at .ensures) (c .before .before .before .before .along .ensures)) (c .before .before .around .ensures))
 
 list-loop-less-2 : (t : ℕ) → list-lts.Need-loop-less-2 (list-claims t) (list-at t) list.Post list-Inv-loop list-μ-loop
-list-loop-less-2 t c = turn-less (c .before .before .before .before .before .before .before .before .before .loop .inv) (c .before .before .before .before .before .before .before .before .before .before .before .before .before .before .before .before .before .pre .1 .0 .range .nested) (c .before .before .before .before .before .before .before .before .loop-test .taken) (c .before .before .before .before .before .before .before .plan-at .ensures .0)
+list-loop-less-2 t c = turn-less (c .before .before .before .before .before .before .before .before .before .before .before .loop .inv) (c .before .before .before .before .before .before .before .before .before .before .before .before .before .before .before .before .before .before .before .pre .1 .0 .range .nested) (c .before .before .before .before .before .before .before .before .before .before .loop-test .taken) (c .before .before .before .before .before .before .before .plan-at .ensures .0)
 
 list-loop-again-2 : (t : ℕ) → list-lts.Need-loop-again-2 (list-claims t) (list-at t) list.Post list-Inv-loop list-μ-loop
-list-loop-again-2 t c = turn-on (c .before .before .before .before .before .before .before .before .before .loop .inv) (c .before .before .before .before .before .before .before .before .before .before .before .before .before .before .before .before .before .pre .1 .0 .range .nested) (c .before .before .before .before .before .before .before .before .loop-test .taken) (c .before .before .before .before .before .before .before .plan-at .ensures .0) (c .before .before .before .before .before .before .before .before .before .before .before .before .before .before .before .before .before .pre .1 .0 .later) (c .before .before .expression .ensures)
+list-loop-again-2 t c = turn-on (c .before .before .before .before .before .before .before .before .before .before .before .loop .inv) (c .before .before .before .before .before .before .before .before .before .before .before .before .before .before .before .before .before .before .before .pre .1 .0 .range .nested) (c .before .before .before .before .before .before .before .before .before .before .loop-test .taken) (c .before .before .before .before .before .before .before .plan-at .ensures .0) (c .before .before .before .before .before .before .before .before .before .before .before .before .before .before .before .before .before .before .before .pre .1 .0 .later) (c .before .before .statement .ensures)
+
+list-loop-less-3 : (t : ℕ) → list-lts.Need-loop-less-3 (list-claims t) (list-at t) list.Post list-Inv-loop list-μ-loop
+list-loop-less-3 t c = turn-less (c .before .before .before .before .before .before .before .before .before .before .before .loop .inv) (c .before .before .before .before .before .before .before .before .before .before .before .before .before .before .before .before .before .before .before .pre .1 .0 .range .nested) (c .before .before .before .before .before .before .before .before .before .before .loop-test .taken) (c .before .before .before .before .before .before .before .plan-at .ensures .0)
+
+list-loop-again-3 : (t : ℕ) → list-lts.Need-loop-again-3 (list-claims t) (list-at t) list.Post list-Inv-loop list-μ-loop
+list-loop-again-3 t c = turn-on (c .before .before .before .before .before .before .before .before .before .before .before .loop .inv) (c .before .before .before .before .before .before .before .before .before .before .before .before .before .before .before .before .before .before .before .pre .1 .0 .range .nested) (c .before .before .before .before .before .before .before .before .before .before .loop-test .taken) (c .before .before .before .before .before .before .before .plan-at .ensures .0) (c .before .before .before .before .before .before .before .before .before .before .before .before .before .before .before .before .before .before .before .pre .1 .0 .later) (c .before .before .expression .ensures)
 
 list-same-length : (t : ℕ) → list-lts.Need-same-length (list-claims t) (list-at t) list.Post list-Inv-loop list-μ-loop
 list-same-length t c = c .before .loop .inv .left .long
@@ -494,9 +531,13 @@ transform-call-expression-for-super-patch-end-requires :
     (t : ℕ) → transform-call-expression-for-super-lts.Need-patch-end-requires (transform-call-expression-for-super-claims t) (transform-call-expression-for-super-at t) transform-call-expression-for-super.Post
 transform-call-expression-for-super-patch-end-requires t c κs = let h0 = c .before .before .before .before .before .before .before .before .before .before .before .before .before .before .pre .1 .1 .1 in let h1 = c .before .before .before .before .before .before .before .append .ensures .next in let h2 = c .before .before .before .transform-member-expression-for-super .ensures .next in let h3 = call-row-size (number (namesOf (c .before .before .before .before .before .before .before .before .before .before .before .before .before .before .args .names .now) (c .before .before .before .before .before .before .before .before .before .before .before .before .before .before .args .text .now)) (listOf (c .before .before .before .before .before .before .before .before .before .before .before .before .before .before .args .made .now) (c .before .before .before .before .before .before .before .before .before .before .before .before .before .before .args .walk)) (c .before .before .before .before .before .before .before .before .before .before .before .before .before .before .args .usage) (c .before .before .before .before .before .before .before .before .before .before .before .before .before .before .args .frame) (c .before .before .before .before .before .before .before .before .before .before .before .before .before .before .args .property)) (inside (c .before .before .before .before .before .before .before .before .before .before .before .before .before .before .args .rows .now) (c .before .before .before .before .before .before .before .before .before .before .before .before .before .before .args .names .now) (c .before .before .before .before .before .before .before .before .before .before .before .before .before .before .args .text .now) (c .before .before .before .before .before .before .before .before .before .before .before .before .before .before .args .made .now) (c .before .before .before .before .before .before .before .before .before .before .before .before .before .before .args .walk) (c .before .before .before .before .before .before .before .before .before .before .before .before .before .before .args .inner)) in omega arith
 
+transform-call-expression-for-super-spot-requires :
+    (t : ℕ) → transform-call-expression-for-super-lts.Need-spot-requires (transform-call-expression-for-super-claims t) (transform-call-expression-for-super-at t) transform-call-expression-for-super.Post
+transform-call-expression-for-super-spot-requires t c κs = search needs
+
 transform-call-expression-for-super-get-this-identifier-requires :
     (t : ℕ) → transform-call-expression-for-super-lts.Need-get-this-identifier-requires (transform-call-expression-for-super-claims t) (transform-call-expression-for-super-at t) transform-call-expression-for-super.Post
-transform-call-expression-for-super-get-this-identifier-requires t c κs = ((c .before .before .before .before .before .before .before .before .before .before .before .before .before .before .before .before .before .before .pre .1 .0 .holds .store .long, (c .before .before .before .before .before .before .before .before .before .before .before .before .before .before .before .before .before .before .pre .1 .0 .holds .cap-low, c .before .before .before .before .before .before .before .before .before .before .before .before .before .before .before .before .before .before .pre .1 .1 .0 .0)), let h0 = c .before .before .before .before .before .before .before .before .before .before .before .before .before .before .before .before .before .before .pre .1 .1 .1 in let h1 = c .before .before .before .before .before .before .before .before .before .before .before .append .ensures .next in let h2 = c .before .before .before .before .before .before .before .transform-member-expression-for-super .ensures .next in let h3 = call-row-size (number (namesOf (c .before .before .before .before .before .before .before .before .before .before .before .before .before .before .before .before .before .before .args .names .now) (c .before .before .before .before .before .before .before .before .before .before .before .before .before .before .before .before .before .before .args .text .now)) (listOf (c .before .before .before .before .before .before .before .before .before .before .before .before .before .before .before .before .before .before .args .made .now) (c .before .before .before .before .before .before .before .before .before .before .before .before .before .before .before .before .before .before .args .walk)) (c .before .before .before .before .before .before .before .before .before .before .before .before .before .before .before .before .before .before .args .usage) (c .before .before .before .before .before .before .before .before .before .before .before .before .before .before .before .before .before .before .args .frame) (c .before .before .before .before .before .before .before .before .before .before .before .before .before .before .before .before .before .before .args .property)) (inside (c .before .before .before .before .before .before .before .before .before .before .before .before .before .before .before .before .before .before .args .rows .now) (c .before .before .before .before .before .before .before .before .before .before .before .before .before .before .before .before .before .before .args .names .now) (c .before .before .before .before .before .before .before .before .before .before .before .before .before .before .before .before .before .before .args .text .now) (c .before .before .before .before .before .before .before .before .before .before .before .before .before .before .before .before .before .before .args .made .now) (c .before .before .before .before .before .before .before .before .before .before .before .before .before .before .before .before .before .before .args .walk) (c .before .before .before .before .before .before .before .before .before .before .before .before .before .before .before .before .before .before .args .inner)) in omega arith)
+transform-call-expression-for-super-get-this-identifier-requires t c κs = ((c .before .before .before .before .before .before .before .before .before .before .before .before .before .before .before .before .before .before .before .pre .1 .0 .holds .store .long, (c .before .before .before .before .before .before .before .before .before .before .before .before .before .before .before .before .before .before .before .pre .1 .0 .holds .cap-low, subst (λ (s : Spot). s .ctx .thisAt < c .before .before .before .before .before .before .before .before .before .before .before .before .before .before .before .before .before .before .before .args .walk .cap) (sym (c .before .spot .ensures .0)) (c .before .before .before .before .before .before .before .before .before .before .before .before .before .before .before .before .before .before .before .pre .1 .1 .0 .0))), let h0 = c .before .before .before .before .before .before .before .before .before .before .before .before .before .before .before .before .before .before .before .pre .1 .1 .1 in let h1 = c .before .before .before .before .before .before .before .before .before .before .before .before .append .ensures .next in let h2 = c .before .before .before .before .before .before .before .before .transform-member-expression-for-super .ensures .next in let h3 = call-row-size (number (namesOf (c .before .before .before .before .before .before .before .before .before .before .before .before .before .before .before .before .before .before .before .args .names .now) (c .before .before .before .before .before .before .before .before .before .before .before .before .before .before .before .before .before .before .before .args .text .now)) (listOf (c .before .before .before .before .before .before .before .before .before .before .before .before .before .before .before .before .before .before .before .args .made .now) (c .before .before .before .before .before .before .before .before .before .before .before .before .before .before .before .before .before .before .before .args .walk)) (c .before .before .before .before .before .before .before .before .before .before .before .before .before .before .before .before .before .before .before .args .usage) (c .before .before .before .before .before .before .before .before .before .before .before .before .before .before .before .before .before .before .before .args .frame) (c .before .before .before .before .before .before .before .before .before .before .before .before .before .before .before .before .before .before .before .args .property)) (inside (c .before .before .before .before .before .before .before .before .before .before .before .before .before .before .before .before .before .before .before .args .rows .now) (c .before .before .before .before .before .before .before .before .before .before .before .before .before .before .before .before .before .before .before .args .names .now) (c .before .before .before .before .before .before .before .before .before .before .before .before .before .before .before .before .before .before .before .args .text .now) (c .before .before .before .before .before .before .before .before .before .before .before .before .before .before .before .before .before .before .before .args .made .now) (c .before .before .before .before .before .before .before .before .before .before .before .before .before .before .before .before .before .before .before .args .walk) (c .before .before .before .before .before .before .before .before .before .before .before .before .before .before .before .before .before .before .before .args .inner)) in omega arith)
 
 transform-call-expression-for-super-same-length :
     (t : ℕ) → transform-call-expression-for-super-lts.Need-same-length (transform-call-expression-for-super-claims t) (transform-call-expression-for-super-at t) transform-call-expression-for-super.Post
@@ -504,7 +545,7 @@ transform-call-expression-for-super-same-length t c = search needs
 
 transform-call-expression-for-super-returns :
     (t : ℕ) → transform-call-expression-for-super-lts.Need-returns (transform-call-expression-for-super-claims t) (transform-call-expression-for-super-at t) transform-call-expression-for-super.Post
-transform-call-expression-for-super-returns t c = beside (nest (c .before .before .before .before .before .before .before .before .before .before .before .before .before .before .append .ensures) (c .before .before .before .before .before .before .before .before .before .before .transform-member-expression-for-super .ensures) (c .before .before .before .before .before .before .patch-end .ensures)) (c .before .before .get-this-identifier .ensures)
+transform-call-expression-for-super-returns t c = beside (nest (c .before .before .before .before .before .before .before .before .before .before .before .before .before .before .before .append .ensures) (c .before .before .before .before .before .before .before .before .before .before .before .transform-member-expression-for-super .ensures) (c .before .before .before .before .before .before .before .patch-end .ensures)) (named (ap (λ (s : Spot). thisRow (c .before .before .before .before .before .before .before .before .before .before .before .before .before .before .before .before .before .before .before .before .before .before .args .made .now) (c .before .before .before .before .before .before .before .before .before .before .before .before .before .before .before .before .before .before .before .before .before .before .args .walk .cap) (s .ctx .takesThis) (s .ctx .thisAt)) (sym (c .before .before .before .before .spot .ensures .0))) (c .before .before .get-this-identifier .ensures))
 
 transform-member-expression-for-super-append-requires :
     (t : ℕ) → transform-member-expression-for-super-lts.Need-append-requires (transform-member-expression-for-super-claims t) (transform-member-expression-for-super-at t) transform-member-expression-for-super.Post
@@ -632,12 +673,20 @@ pub +around+class+expression+function+kept+list+sequence+statement+transform-cal
     (around-cast-append t)
     (around-cast-append-2 t)
     (around-cast-append-3 t)
+    (around-add-append t)
+    (around-cast-append-4 t)
     (around-append-requires t)
+    (around-same-length t)
+    (around-returns t)
+    (around-cast-append-5 t)
+    (around-cast-append-6 t)
+    (around-cast-append-7 t)
+    (around-append-requires-2 t)
     (around-list-requires t)
     (around-cast-patch-end t)
     (around-patch-end-requires t)
-    (around-same-length t)
-    (around-returns t))
+    (around-same-length-2 t)
+    (around-returns-2 t))
     (λ t. class-lts.spec
     (around-below t, around.Post)
     (class-at t)
@@ -647,24 +696,19 @@ pub +around+class+expression+function+kept+list+sequence+statement+transform-cal
     (class-returns t))
     (λ t. expression-lts.spec (expression-claims t) (expression-at t)
     expression.Post
-    (expression-append-requires t)
-    (expression-append-requires-2 t)
+    (expression-open-body-requires t)
     (expression-undressed-requires t)
-    (expression-cast-patch-end t)
-    (expression-patch-end-requires t)
-    (expression-cast-patch-end-2 t)
-    (expression-patch-end-requires-2 t)
+    (expression-cast-close-body t)
+    (expression-close-body-requires t)
     (expression-same-length t)
-    (expression-returns t)
-    (expression-undressed-requires-2 t)
-    (expression-same-length-2 t)
-    (expression-returns-2 t))
+    (expression-returns t))
     (λ t. function-lts.spec (function-claims t) (function-at t)
     function.Post
     (function-cast-append t)
     (function-cast-append-2 t)
     (function-cast-append-3 t)
     (function-append-requires t)
+    (function-this-at-requires t)
     (function-insert-at-the-top-requires t)
     (function-list-requires t)
     (function-cast-patch-end t)
@@ -689,6 +733,10 @@ pub +around+class+expression+function+kept+list+sequence+statement+transform-cal
     list-Inv-loop
     list-μ-loop
     (list-loop-holds t)
+    (list-stays-at-requires t)
+    (list-words-at-requires t)
+    (list-along-requires t)
+    (list-around-requires t)
     (list-plan-at-requires t)
     (list-is-statement-requires t)
     (list-statement-requires t)
@@ -697,6 +745,8 @@ pub +around+class+expression+function+kept+list+sequence+statement+transform-cal
     (list-loop-again t)
     (list-loop-less-2 t)
     (list-loop-again-2 t)
+    (list-loop-less-3 t)
+    (list-loop-again-3 t)
     (list-same-length t)
     (list-returns t))
     (λ t. sequence-lts.spec (sequence-claims t) (sequence-at t)
@@ -727,6 +777,7 @@ pub +around+class+expression+function+kept+list+sequence+statement+transform-cal
     (transform-call-expression-for-super-transform-member-expression-for-super-requires t)
     (transform-call-expression-for-super-cast-patch-end t)
     (transform-call-expression-for-super-patch-end-requires t)
+    (transform-call-expression-for-super-spot-requires t)
     (transform-call-expression-for-super-get-this-identifier-requires t)
     (transform-call-expression-for-super-same-length t)
     (transform-call-expression-for-super-returns t))

@@ -40,8 +40,8 @@ value-from-requires c κs = search needs
 mul-wide : tie.Need-mul-wide
 mul-wide c = search needs
 
-element-copy-out-wide : tie.Need-element-copy-out-wide
-element-copy-out-wide c = search needs
+shared-slice-read-wide : tie.Need-shared-slice-read-wide
+shared-slice-read-wide c = search needs
 
 wide-requires : tie.Need-wide-requires
 wide-requires c κs = search needs
@@ -69,7 +69,7 @@ field-holds-spec =
     cell-requires-3
     value-from-requires
     mul-wide
-    element-copy-out-wide
+    shared-slice-read-wide
     wide-requires
     returns-2
     returns-3)

@@ -2,6 +2,7 @@
 use Prim.Native.Nat.{ℕ, _-_, _+_, _*_, _/_, _<_, _≤_}
 use mathlib.Core.Path.{_≡_, refl, sym, ap, subst, _∙_}
 use borrow.Author.Tests.{ltb-true}
+use lib.ListN.{length, length-set}
 use Rattle.rows.specs.Words.{words}
 use Rattle.rows.specs.Told.{toAll}
 use Rattle.rows.proofs.Bools.{and-left}
@@ -11,13 +12,13 @@ use Rattle.rows.proofs.depth.tell.Statement.{statement}
 use Rattle.rows.proofs.depth.tell.Tie as tie
 
 abbrev Inv-loop : tie.InvT-loop
-Inv-loop s depth₀ d c0 e c₀ depth c = (pos : ℕ) × Telling (words s) (toAll d) e 16384 c0 depth₀ depth c pos
+Inv-loop s depth₀ d c0 e c₀ depth c = (pos : ℕ) × Telling (words s) (toAll d) e (length depth₀) c0 depth₀ depth c pos
 
 abbrev μ-loop : tie.MeasureT-loop
 μ-loop s depth₀ d c0 e c₀ depth c = e - c
 
 loop-holds : tie.Need-loop-holds Inv-loop μ-loop
-loop-holds c = (0, tell-start _ _ _ _ _ _ (c .before .pre .1 .1))
+loop-holds c = (0, tell-start _ _ _ _ _ _ refl)
 
 mul-cell : tie.Need-mul-cell Inv-loop μ-loop
 mul-cell c = omega arith
@@ -31,20 +32,26 @@ cell-requires c κs = omega arith
 mul-depth : tie.Need-mul-depth Inv-loop μ-loop
 mul-depth c = omega arith
 
-element-write-depth : tie.Need-element-write-depth Inv-loop μ-loop
-element-write-depth c = omega arith
+slice-write-depth : tie.Need-slice-write-depth Inv-loop μ-loop
+slice-write-depth c = let l = c .before .before .loop .inv .1 .long in omega arith
 
 loop-less : tie.Need-loop-less Inv-loop μ-loop
 loop-less c = let past : c .before .before .before .loop .c < c .before .cell .result = ltb-true _ _ (and-left _ _ (c .if1 .taken)) in omega arith
 
 loop-again : tie.Need-loop-again Inv-loop μ-loop
-loop-again c = let at = c .before .before .before in (at .loop .inv .0 + 1, tell-next _ _ _ _ _ _ _ _ _ (at .loop .inv .1) (c .before .before .loop-test .taken) (at .before .before .pre .0) _ refl _ (c .before .cell .ensures .0) (c .if1 .taken))
+loop-again c = (c .before .before .before .loop .inv .0 + 1, tell-next _ _ _ _ _ _ _ _ _ (c .before .before .before .loop .inv .1) (c .before .before .loop-test .taken) (c .before .before .before .before .before .before .pre .1 .1) _ refl _ (c .before .cell .ensures .0) (c .if1 .taken))
+
+same-length : tie.Need-same-length Inv-loop μ-loop
+same-length c = length-set (c .before .before .before .loop .depth) (c .before .before .before .loop .c) (c .before .before .before .before .before .before .args .d) ∙ c .before .before .before .loop .inv .1 .long
 
 returns : tie.Need-returns Inv-loop μ-loop
-returns c = let at = c .before .before .before in let t = tell-last _ _ _ _ _ _ _ _ _ (at .loop .inv .1) (c .before .before .loop-test .taken) (at .before .before .pre .0) _ refl _ (c .before .cell .ensures .0) (c .if1 .left) in (t .long, t .each)
+returns c = tell-last _ _ _ _ _ _ _ _ _ (c .before .before .before .loop .inv .1) (c .before .before .loop-test .taken) (c .before .before .before .before .before .before .pre .1 .1) _ refl _ (c .before .cell .ensures .0) (c .if1 .left) .each
+
+same-length-2 : tie.Need-same-length-2 Inv-loop μ-loop
+same-length-2 c = c .before .loop .inv .1 .long
 
 returns-2 : tie.Need-returns-2 Inv-loop μ-loop
-returns-2 c = let t = tell-done _ _ _ _ _ _ _ _ _ (c .before .loop .inv .1) (c .loop-test .left) in (t .long, t .each)
+returns-2 c = tell-done _ _ _ _ _ _ _ _ _ (c .before .loop .inv .1) (c .loop-test .left) .each
 
 pub tell-spec : {M : Type 1} → statement M
 tell-spec =
@@ -57,8 +64,10 @@ tell-spec =
     add-cell
     cell-requires
     mul-depth
-    element-write-depth
+    slice-write-depth
     loop-less
     loop-again
+    same-length
     returns
+    same-length-2
     returns-2)

@@ -1,6 +1,8 @@
 -- `rows::faults::early_fault` meets its contract. Each way out rewrites with the tests that led there. Assumes nothing.
 use Rattle.rows.specs.Faults.{earlyFault}
+use mathlib.Core.Path.{sym, _∙_}
 use borrow.Author.Needs.{needs}
+use borrow.Author.Tests.{not-false}
 use Rattle.rows.proofs.faults.early_fault.Statement.{statement}
 use Rattle.rows.proofs.faults.early_fault.Tie as tie
 
@@ -12,7 +14,7 @@ unfolding earlyFault
 returns c = rw (← c .before .kind-ok .ensures, c .if1 .taken)
 
 attr-ok-requires : tie.Need-attr-ok-requires
-attr-ok-requires c κs = search needs
+attr-ok-requires c κs = sym (c .before .kind-ok .ensures) ∙ not-false (c .before .kind-ok .result) (c .if1 .left)
 
 returns-2 : tie.Need-returns-2
 unfolding earlyFault

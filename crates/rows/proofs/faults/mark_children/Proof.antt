@@ -2,6 +2,7 @@
 use Prim.Native.Nat.{ℕ, _-_, _+_, _*_, _/_, _<_, _≤_}
 use mathlib.Core.Path.{_≡_, refl, sym, ap, subst, _∙_}
 use borrow.Author.Tests.{ltb-true}
+use lib.ListN.{length, length-set}
 use Rattle.rows.specs.Words.{words, endAt}
 use Rattle.rows.specs.Told.{says}
 use Rattle.rows.proofs.Bools.{and-left}
@@ -13,13 +14,13 @@ use Rattle.rows.proofs.faults.mark_children.Statement.{statement}
 use Rattle.rows.proofs.faults.mark_children.Tie as tie
 
 abbrev Inv-loop : tie.InvT-loop
-Inv-loop s marks₀ k a c0 e c₀ pos₀ marks c pos = Telling (words s) (says (words s) k a e) e 16384 c0 marks₀ marks c pos × (pos ≤ c)
+Inv-loop s marks₀ k a c0 e c₀ pos₀ marks c pos = Telling (words s) (says (words s) k a e) e (length marks₀) c0 marks₀ marks c pos × (pos ≤ c)
 
 abbrev μ-loop : tie.MeasureT-loop
 μ-loop s marks₀ k a c0 e c₀ pos₀ marks c pos = e - c
 
 loop-holds : tie.Need-loop-holds Inv-loop μ-loop
-loop-holds c = (tell-start _ _ _ _ _ _ (c .before .pre .1 .1), omega arith)
+loop-holds c = (tell-start _ _ _ _ _ _ refl, omega arith)
 
 mul-cell : tie.Need-mul-cell Inv-loop μ-loop
 mul-cell c = omega arith
@@ -33,8 +34,8 @@ cell-requires c κs = omega arith
 place-of-requires : tie.Need-place-of-requires Inv-loop μ-loop
 place-of-requires c κs = search needs
 
-element-write-marks : tie.Need-element-write-marks Inv-loop μ-loop
-element-write-marks c = let l = c .before .before .before .before .loop .inv .0 .long in omega arith
+slice-write-marks : tie.Need-slice-write-marks Inv-loop μ-loop
+slice-write-marks c = let l = c .before .before .before .before .loop .inv .0 .long in omega arith
 
 add-pos : tie.Need-add-pos Inv-loop μ-loop
 add-pos c = omega arith
@@ -44,31 +45,35 @@ loop-less c = let past : c .before .before .before .before .loop .c < c .before 
 
 loop-again : tie.Need-loop-again Inv-loop μ-loop
 loop-again c =
-    let at = c .before .before .before .before in
-    let ws = words (at .before .before .args .s .now) in
-    let x : c .before .before .cell .result ≡ endAt ws (at .loop .c) = c .before .before .cell .ensures .0 in
-    let past : at .loop .c < c .before .before .cell .result = ltb-true _ _ (and-left _ _ (c .if1 .taken)) in
-    (tell-next _ _ _ _ _ _ _ _ _ (at .loop .inv .0) (c .before .before .before .loop-test .taken) (at .before .before .pre .0) _ (said-good ws _ _ _ _ _ _ x (c .if1 .taken) (c .before .place-of .ensures .0)) _ x (c .if1 .taken), omega arith)
+    let ws = words (c .before .before .before .before .before .before .before .args .s .now) in
+    let x : c .before .before .cell .result ≡ endAt ws (c .before .before .before .before .loop .c) = c .before .before .cell .ensures .0 in
+    let past : c .before .before .before .before .loop .c < c .before .before .cell .result = ltb-true _ _ (and-left _ _ (c .if1 .taken)) in
+    (tell-next _ _ _ _ _ _ _ _ _ (c .before .before .before .before .loop .inv .0) (c .before .before .before .loop-test .taken) (c .before .before .before .before .before .before .before .pre .1 .1) _ (said-good ws _ _ _ _ _ _ x (c .if1 .taken) (c .before .place-of .ensures .0)) _ x (c .if1 .taken), omega arith)
 
 add-marks : tie.Need-add-marks Inv-loop μ-loop
 add-marks c = omega arith
 
-element-write-marks-2 : tie.Need-element-write-marks-2 Inv-loop μ-loop
-element-write-marks-2 c = omega arith
+slice-write-marks-2 : tie.Need-slice-write-marks-2 Inv-loop μ-loop
+slice-write-marks-2 c = let l = c .before .before .before .before .loop .inv .0 .long in omega arith
 
 add-result : tie.Need-add-result Inv-loop μ-loop
 add-result c = omega arith
 
+same-length : tie.Need-same-length Inv-loop μ-loop
+same-length c = length-set (c .before .before .before .before .loop .marks) (c .before .before .before .before .loop .c) (c .before .place-of .result + 16) ∙ c .before .before .before .before .loop .inv .0 .long
+
 returns : tie.Need-returns Inv-loop μ-loop
 returns c =
-    let at = c .before .before .before .before in
-    let ws = words (at .before .before .args .s .now) in
-    let x : c .before .before .cell .result ≡ endAt ws (at .loop .c) = c .before .before .cell .ensures .0 in
-    let t = tell-last _ _ _ _ _ _ _ _ _ (at .loop .inv .0) (c .before .before .before .loop-test .taken) (at .before .before .pre .0) _ (said-bad ws _ _ _ _ _ _ x (c .if1 .left) (c .before .place-of .ensures .0)) _ x (c .if1 .left) in
-    (t .long, (t .many, t .each))
+    let ws = words (c .before .before .before .before .before .before .before .args .s .now) in
+    let x : c .before .before .cell .result ≡ endAt ws (c .before .before .before .before .loop .c) = c .before .before .cell .ensures .0 in
+    let t = tell-last _ _ _ _ _ _ _ _ _ (c .before .before .before .before .loop .inv .0) (c .before .before .before .loop-test .taken) (c .before .before .before .before .before .before .before .pre .1 .1) _ (said-bad ws _ _ _ _ _ _ x (c .if1 .left) (c .before .place-of .ensures .0)) _ x (c .if1 .left) in
+    (t .many, t .each)
+
+same-length-2 : tie.Need-same-length-2 Inv-loop μ-loop
+same-length-2 c = c .before .loop .inv .0 .long
 
 returns-2 : tie.Need-returns-2 Inv-loop μ-loop
-returns-2 c = let t = tell-done _ _ _ _ _ _ _ _ _ (c .before .loop .inv .0) (c .loop-test .left) in (t .long, (t .many, t .each))
+returns-2 c = let t = tell-done _ _ _ _ _ _ _ _ _ (c .before .loop .inv .0) (c .loop-test .left) in (t .many, t .each)
 
 pub mark-children-spec : {M : Type 1} → statement M
 mark-children-spec =
@@ -81,12 +86,14 @@ mark-children-spec =
     add-cell
     cell-requires
     place-of-requires
-    element-write-marks
+    slice-write-marks
     add-pos
     loop-less
     loop-again
     add-marks
-    element-write-marks-2
+    slice-write-marks-2
     add-result
+    same-length
     returns
+    same-length-2
     returns-2)

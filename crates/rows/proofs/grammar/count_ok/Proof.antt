@@ -1,19 +1,28 @@
 -- `rows::grammar::count_ok` meets its contract. Assumes nothing.
+use mathlib.Core.Path.{_∙_}
 use borrow.Author.Needs.{needs}
+use Rattle.rows.specs.Grammar.{countOk}
+use Rattle.rows.proofs.Masks.{in-set, by-attr, by-kind}
 use Rattle.rows.proofs.grammar.count_ok.Statement.{statement}
 use Rattle.rows.proofs.grammar.count_ok.Tie as tie
 
-list-kind-requires : tie.Need-list-kind-requires
-list-kind-requires c κs = search needs
-
-add-result : tie.Need-add-result
-add-result c = search needs
-
-add-result-2 : tie.Need-add-result-2
-add-result-2 c = search needs
+counted-requires : tie.Need-counted-requires
+counted-requires c κs = search needs
 
 returns : tie.Need-returns
-returns c = rw (c .list-kind .ensures)
+returns c = c .counted .ensures ∙ by-attr (c .before .before .args .k) (c .before .before .args .a) (c .before .before .args .count) (c .before .if1 .taken)
+
+kinds-of-requires : tie.Need-kinds-of-requires
+kinds-of-requires c κs = search needs
+
+shr-result : tie.Need-shr-result
+shr-result c = search needs
+
+returns-2 : tie.Need-returns-2
+returns-2 c =
+    let a = c .before .before .args in
+    rw (c .kinds-of .ensures) (in-set (λ k. countOk k 0 (a .count)) (a .k) (c .before .before .pre) ∙ by-kind (a .k) (a .a) (a .count) (c .before .if1 .left))
 
 pub count-ok-spec : {M : Type 1} → statement M
-count-ok-spec = tie.close (tie.spec list-kind-requires add-result add-result-2 returns)
+count-ok-spec =
+    tie.close (tie.spec counted-requires returns kinds-of-requires shr-result returns-2)

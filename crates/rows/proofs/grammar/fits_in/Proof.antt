@@ -1,16 +1,18 @@
 -- `rows::grammar::fits_in` meets its contract. Assumes nothing.
 use borrow.Author.Needs.{needs}
+use Rattle.rows.specs.Grammar.{fits}
+use Rattle.rows.proofs.Masks.{in-set}
 use Rattle.rows.proofs.grammar.fits_in.Statement.{statement}
 use Rattle.rows.proofs.grammar.fits_in.Tie as tie
 
-is-statement-kind-requires : tie.Need-is-statement-kind-requires
-is-statement-kind-requires c κs = search needs
+kinds-in-requires : tie.Need-kinds-in-requires
+kinds-in-requires c κs = search needs
 
-is-expression-requires : tie.Need-is-expression-requires
-is-expression-requires c κs = search needs
+shr-result : tie.Need-shr-result
+shr-result c = search needs
 
 returns : tie.Need-returns
-returns c = rw (c .before .is-statement-kind .ensures, c .is-expression .ensures)
+returns c = rw (c .kinds-in .ensures) (in-set (fits (c .before .args .place)) (c .before .args .k) (c .before .pre))
 
 pub fits-in-spec : {M : Type 1} → statement M
-fits-in-spec = tie.close (tie.spec is-statement-kind-requires is-expression-requires returns)
+fits-in-spec = tie.close (tie.spec kinds-in-requires shr-result returns)
