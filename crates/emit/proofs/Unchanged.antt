@@ -12,6 +12,7 @@ use Rattle.spelling.specs.Spelling.{GivenNames}
 use Rattle.steps.specs.Mode.{Switches}
 use Rattle.steps.specs.Naming.{Names}
 use Rattle.steps.specs.Outcome.{namesOf}
+use Rattle.steps.specs.AfterSuper.{superCall}
 use Rattle.steps.specs.ArrowToFunction.{dress}
 use Rattle.steps.specs.Context.{Spot, enter}
 use Rattle.steps.proofs.Credit.{eqb-eq}
@@ -36,34 +37,78 @@ use Rattle.emit.specs.Unchanged.{Steady, Unchanged, WordsOf, Along}
 -- where nothing is visited
 pub steady-copy : (k : ℕ) → Steady 2 k
 unfolding metOf directOf scanOf nextOf
-steady-copy k = record { met = λ s. and-false (eqb k 14 && s); first = λ c. and-false (eqb k 1 && c); scan = λ a n. refl; next = refl }
+steady-copy k = record { met = λ s. and-false (eqb k 14 && s); scan = λ a n. refl; next = refl }
 
 neither : (x y : Bool) → (x || y) ≡ false → (x ≡ false) × (y ≡ false)
 neither true y e = absurd (true≢false e)
 neither false y e = (refl, e)
 
--- where rows are visited, and this one does not change how
-pub steady-visit : (k : ℕ) → (eqb k 23 || eqb k 14 || eqb k 5 || eqb k 19 || eqb k 17 || eqb k 20) ≡ false → Steady 1 k
-unfolding metOf directOf scanOf nextOf
-steady-visit k e =
-    let a = neither (eqb k 23 || eqb k 14 || eqb k 5 || eqb k 19 || eqb k 17) (eqb k 20) e in
-    let b = neither (eqb k 23 || eqb k 14 || eqb k 5 || eqb k 19) (eqb k 17) (a .0) in
-    let g = neither (eqb k 23 || eqb k 14 || eqb k 5) (eqb k 19) (b .0) in
-    let d = neither (eqb k 23 || eqb k 14) (eqb k 5) (g .0) in
-    let f = neither (eqb k 23) (eqb k 14) (d .0) in
-    record { met = λ s. rw (f .1); first = λ c. and-false (eqb k 1 && c); scan = λ x n. rw (d .1, g .1, b .1, f .0, a .1); next = refl }
+-- where rows are visited, and in a statement list, a row that does not change how
+module _ (k : ℕ) (e : (eqb k 23 || eqb k 14 || eqb k 5 || eqb k 19 || eqb k 17 || eqb k 20) ≡ false) where
+  five : ((eqb k 23 || eqb k 14 || eqb k 5 || eqb k 19 || eqb k 17) ≡ false) × (eqb k 20 ≡ false)
+  five = neither (eqb k 23 || eqb k 14 || eqb k 5 || eqb k 19 || eqb k 17) (eqb k 20) e
+
+  four : ((eqb k 23 || eqb k 14 || eqb k 5 || eqb k 19) ≡ false) × (eqb k 17 ≡ false)
+  four = neither (eqb k 23 || eqb k 14 || eqb k 5 || eqb k 19) (eqb k 17) (five .0)
+
+  three : ((eqb k 23 || eqb k 14 || eqb k 5) ≡ false) × (eqb k 19 ≡ false)
+  three = neither (eqb k 23 || eqb k 14 || eqb k 5) (eqb k 19) (four .0)
+
+  two : ((eqb k 23 || eqb k 14) ≡ false) × (eqb k 5 ≡ false)
+  two = neither (eqb k 23 || eqb k 14) (eqb k 5) (three .0)
+
+  one : (eqb k 23 ≡ false) × (eqb k 14 ≡ false)
+  one = neither (eqb k 23) (eqb k 14) (two .0)
+
+  steady-visit : Steady 1 k
+  unfolding metOf scanOf nextOf
+  steady-visit = record { met = λ s. rw (one .1); scan = λ x n. rw (two .1, three .1, four .1, one .0, five .1); next = refl }
+
+  steady-list : Steady 0 k
+  unfolding metOf scanOf nextOf
+  steady-list = record { met = λ s. rw (one .1); scan = λ x n. rw (two .1, three .1, four .1, one .0, five .1); next = refl }
 
 both : (x y : Bool) → (x && y) ≡ true → (x ≡ true) × (y ≡ true)
 both true y e = (refl, e)
 both false y e = absurd (true≢false (sym e))
 
-pub steady-of : (sc k : ℕ) → (eqb sc 1 && not (eqb k 23 || eqb k 14 || eqb k 5 || eqb k 19 || eqb k 17 || eqb k 20)) ≡ true → Steady sc k
-steady-of sc k h =
-    let p = both (eqb sc 1) (not (eqb k 23 || eqb k 14 || eqb k 5 || eqb k 19 || eqb k 17 || eqb k 20)) h in
-    subst (λ (s : ℕ). Steady s k) (sym (eqb-eq sc 1 (p .0))) (steady-visit k (flipped _ (p .1)))
+pub steady-of : (sc k : ℕ) → ((eqb sc 1 || eqb sc 0) && not (eqb k 23 || eqb k 14 || eqb k 5 || eqb k 19 || eqb k 17 || eqb k 20)) ≡ true → Steady sc k
+steady-of sc k h = go (eqb sc 1) refl (p .0)
+  where
+    p : ((eqb sc 1 || eqb sc 0) ≡ true) × (not (eqb k 23 || eqb k 14 || eqb k 5 || eqb k 19 || eqb k 17 || eqb k 20) ≡ true)
+    p = both (eqb sc 1 || eqb sc 0) (not (eqb k 23 || eqb k 14 || eqb k 5 || eqb k 19 || eqb k 17 || eqb k 20)) h
 
-pub unchanged-at : {w : Switches} {q : Spot} {sc : ℕ} {ws : List ℕ} {i k a : ℕ} → k ≡ kindAt ws i → a ≡ attrAt ws i → Steady sc k → Stays w q k a → Unchanged w q sc ws i
-unchanged-at {w} {q} {sc} {ws} {i} {k} {a} ek ea S T = record {
+    else : (eqb k 23 || eqb k 14 || eqb k 5 || eqb k 19 || eqb k 17 || eqb k 20) ≡ false
+    else = flipped _ (p .1)
+
+    go : (x : Bool) → eqb sc 1 ≡ x → (x || eqb sc 0) ≡ true → Steady sc k
+    go true e g = subst (λ (s : ℕ). Steady s k) (sym (eqb-eq sc 1 e)) (steady-visit k else)
+    go false e g = subst (λ (s : ℕ). Steady s k) (sym (eqb-eq sc 0 g)) (steady-list k else)
+
+-- a direct `super(..)`, by the tests that the code makes
+pub direct-yes : (sc k : ℕ) (c : Bool) → (eqb k 1 && eqb sc 0) ≡ true → c ≡ directOf sc k c
+unfolding directOf
+direct-yes sc k c h = go c
+  where
+    p : (eqb k 1 ≡ true) × (eqb sc 0 ≡ true)
+    p = both (eqb k 1) (eqb sc 0) h
+
+    go : (c : Bool) → c ≡ (eqb k 1 && c && eqb sc 0)
+    go true = rw (p .0, p .1) refl
+    go false = rw (p .0) refl
+
+pub direct-no : (sc k : ℕ) (c : Bool) → (eqb k 1 && eqb sc 0) ≡ false → false ≡ directOf sc k c
+unfolding directOf
+direct-no sc k c h = go (eqb k 1) c h
+  where
+    go : (x c : Bool) → (x && eqb sc 0) ≡ false → false ≡ (x && c && eqb sc 0)
+    go true true g = sym g
+    go true false g = refl
+    go false c g = refl
+
+pub unchanged-at : {w : Switches} {q : Spot} {sc : ℕ} {ws : List ℕ} {i k a : ℕ} → k ≡ kindAt ws i → a ≡ attrAt ws i → Steady sc k → directOf sc k (superCall (children ws i)) ≡ false → Stays w q k a → Unchanged w q sc ws i
+unchanged-at {w} {q} {sc} {ws} {i} {k} {a} ek ea S D T = record {
+  first = subst (λ (x : ℕ). directOf sc x (superCall (children ws i)) ≡ false) ek D;
   steady = subst (Steady sc) ek S;
   stays = subst (λ (x : ℕ). Stays w q (kindAt ws i) x) ea (subst (λ (x : ℕ). Stays w q x a) ek T);
 }
@@ -100,9 +145,9 @@ module _ (rows names text M : List ℕ) (v : Walk) (b sc : ℕ) (q : Place) (i :
     };
     says = record {
       met = rw (U .stays .bare) (sym (U .steady .met _));
-      first = rw (U .stays .bare) (sym (U .steady .first _));
-      scan = rw (U .stays .bare, U .stays .unclosed, U .steady .met _, U .steady .first _, H .kind, U .steady .scan (h .attr) (h .name)) (E .state);
-      next = rw (U .stays .bare, U .steady .first _) (sym (U .steady .next));
+      first = rw (U .stays .bare) (sym (U .first));
+      scan = rw (U .stays .bare, U .stays .unclosed, U .steady .met _, U .first, H .kind, U .steady .scan (h .attr) (h .name)) (E .state);
+      next = rw (U .stays .bare, U .first) (sym (U .steady .next));
       bind = rw (U .stays .unclosed) (E .bind);
     };
   }

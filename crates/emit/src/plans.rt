@@ -9,9 +9,11 @@ use below::end_at;
 use below::kind_at;
 use below::look;
 use below::name_at;
+use below::super_call;
 use bindings::entry;
 use passes::pass_of;
 use passes::states::COPY;
+use passes::states::LIST;
 use passes::states::VISIT;
 use plan::act_at;
 use plan::late::is_late;
@@ -40,13 +42,15 @@ ghost use lib.ListN.{length};
 ghost use Rattle.rows.specs.Words.{words, rowsIn};
 ghost use Rattle.spelling.specs.Spelling.{GivenNames};
 ghost use Rattle.steps.specs.Outcome.{namesOf};
-ghost use Rattle.below.specs.Below.{At};
+ghost use Rattle.steps.specs.AfterSuper.{superCall};
+ghost use Rattle.steps.specs.Fused.{directOf};
+ghost use Rattle.below.specs.Below.{At, children};
 ghost use Rattle.acts.specs.View.{switchesOf};
 ghost use Rattle.plan.specs.Placing.{placeOf};
 ghost use Rattle.plan.specs.Frames.{FramesBelow};
 ghost use Rattle.emit.specs.Walkers.{isStatement, isFunction, isClass};
 ghost use Rattle.emit.specs.Plans.{Holds, Planned, RowPre};
-ghost use Rattle.emit.specs.Unchanged.{Steady, Unchanged, WordsOf, Along};
+ghost use Rattle.emit.specs.Unchanged.{Steady, insideState, Unchanged, WordsOf, Along};
 
 // Statements, and a Var's Declarators.
 pub fn is_statement(kind: usize) -> bool
@@ -139,8 +143,8 @@ pub fn plan_at(
     }
 }
 
-// Whether module 7 leaves a row of that kind alone in a list of that state, and its children and the
-// rows after it are in the same state.
+// Whether module 7 leaves a row of that kind alone in a list of that state, but for a direct `super(..)`: the rows after
+// it are in the same state, and its children in that of `inside_state`.
 fn is_steady(state: usize, kind: usize) -> bool
     ensures { λ r. ⌜ (r ≡ true → Steady state kind) ⌝ }
 {
@@ -153,16 +157,40 @@ fn is_steady(state: usize, kind: usize) -> bool
         | (kind == BODY)
         | (kind == FUNCTION)
         | (kind == CLASS);
-    (state == VISIT) & !turns
+    ((state == VISIT) | (state == LIST)) & !turns
 }
 
-// Whether row i is known to stay as it is, with its children in its place and state.
+// The state inside such a row: a statement list's rows are visited.
+fn inside_state(state: usize) -> usize
+    ensures { λ r. ⌜ r ≡ insideState state ⌝ }
+{
+    if state == LIST {
+        return VISIT;
+    }
+    state
+}
+
+// Whether row i is a direct `super(..)` statement of a list in which none was met yet.
+fn is_direct(rows: &[u8], state: usize, kind: usize, i: usize) -> bool
+    requires { ⌜ At (now rows) (rowsIn (now rows)) i ⌝ }
+    ensures { λ r. ⌜ r ≡ directOf state kind (superCall (children (words (now (rows .entry))) i)) ⌝ }
+{
+    if (kind == EXPR_STMT) & (state == LIST) {
+        return super_call(rows, i);
+    }
+    false
+}
+
+// Whether row i is known to stay as it is, with its children in its place and the state inside it.
 pub fn stays_at(rows: &[u8], switches: Switches, state: usize, q: Place, i: usize) -> bool
     requires { ⌜ At (now rows) (rowsIn (now rows)) i ⌝ }
     ensures { λ r. ⌜ (r ≡ true → Unchanged (switchesOf switches) (placeOf q) state (words (now (rows .entry))) i) ⌝ }
 {
     let kind = kind_at(rows, i);
     if !is_steady(state, kind) {
+        return false;
+    }
+    if is_direct(rows, state, kind, i) {
         return false;
     }
     stays(switches, q, kind, attr_at(rows, i))
@@ -180,7 +208,7 @@ pub fn words_at(rows: &[u8], i: usize) -> Words
     }
 }
 
-// The children of row i, where they stand in its place and state.
+// The children of row i, where they stand in its place and the state inside it.
 pub fn along(rows: &[u8], bind: usize, state: usize, q: Place, i: usize) -> Siblings
     requires { ⌜ At (now rows) (rowsIn (now rows)) i ⌝ }
     ensures { λ r. ⌜ Along (words (now (rows .entry))) bind state (placeOf q) i r ⌝ }
@@ -190,7 +218,7 @@ pub fn along(rows: &[u8], bind: usize, state: usize, q: Place, i: usize) -> Sibl
         from: i + 1,
         end: end_at(rows, i),
         bind,
-        state,
+        state: inside_state(state),
         one: inside,
         more: inside,
     }

@@ -48,7 +48,11 @@ pub fn seq_at(s: &[u8], i: usize) -> usize
     requires { ⌜ i < length (now s) ⌝ }
     ensures { λ r. ⌜ (r ≡ seqAt (now (s .entry)) i) × (r ≤ 4) ⌝ }
 {
-    seq(byte(s, i), byte(s, i + 1), byte(s, i + 2), byte(s, i + 3))
+    let a = s[i];
+    if a <= 0x7F {
+        return 1;
+    }
+    seq(a, byte(s, i + 1), byte(s, i + 2), byte(s, i + 3))
 }
 
 pub fn is_utf8(s: &[u8]) -> bool
