@@ -38,15 +38,15 @@ binds-at M cap b (suc n) (suc j) d h = let q : b + 1 + j ≡ b + suc j = omega a
 pub same-binds : (M M′ : List ℕ) (cap count : ℕ) → count < cap → ((j : ℕ) → j < 3 * cap → getD M′ j 0 ≡ getD M j 0) → binds M′ cap count ≡ binds M cap count
 same-binds M M′ cap count l h = binds-agree M M′ cap 1 count (λ j x y. rw (h j (omega arith), h (cap + j) (omega arith), h (2 * cap + j) (omega arith)))
 
-module _ (M : List ℕ) (cap b u x f : ℕ) (long : length M ≡ 10 * cap) (low : b < cap) where
-  pub pushed-long : length (pushed M cap b u x f) ≡ 10 * cap
+module _ (M : List ℕ) (cap b u x f : ℕ) (long : length M ≡ 12 * cap) (low : b < cap) where
+  pub pushed-long : length (pushed M cap b u x f) ≡ 12 * cap
   pushed-long = simp length-set long
 
   -- the record is there
   pub pushed-here : bindAt (pushed M cap b u x f) cap b ≡ bind u x f
   pushed-here =
-      let l₁ : length (set M b u) ≡ 10 * cap = length-set M b u ∙ long in
-      let l₂ : length (set (set M b u) (cap + b) x) ≡ 10 * cap = length-set (set M b u) (cap + b) x ∙ l₁ in
+      let l₁ : length (set M b u) ≡ 12 * cap = length-set M b u ∙ long in
+      let l₂ : length (set (set M b u) (cap + b) x) ≡ 12 * cap = length-set (set M b u) (cap + b) x ∙ l₁ in
       let e₁ : getD (pushed M cap b u x f) b 0 ≡ u = getD-set-other (set (set M b u) (cap + b) x) (2 * cap + b) b f 0 (λ q. omega arith) ∙ getD-set-other (set M b u) (cap + b) b x 0 (λ q. omega arith) ∙ getD-set-same M b u 0 (omega arith) in
       let e₂ : getD (pushed M cap b u x f) (cap + b) 0 ≡ x = getD-set-other (set (set M b u) (cap + b) x) (2 * cap + b) (cap + b) f 0 (λ q. omega arith) ∙ getD-set-same (set M b u) (cap + b) x 0 (omega arith) in
       let e₃ : getD (pushed M cap b u x f) (2 * cap + b) 0 ≡ f = getD-set-same (set (set M b u) (cap + b) x) (2 * cap + b) f 0 (omega arith) in
@@ -64,7 +64,7 @@ module _ (M : List ℕ) (cap b u x f : ℕ) (long : length M ≡ 10 * cap) (low 
       rw (pushed-else j (λ q. omega arith) (λ q. omega arith) (λ q. omega arith), pushed-else (cap + j) (λ q. omega arith) (λ q. omega arith) (λ q. omega arith), pushed-else (2 * cap + j) (λ q. omega arith) (λ q. omega arith) (λ q. omega arith))
 
 -- one binding more
-pub pushed-binds : (M : List ℕ) (cap count u x f : ℕ) → length M ≡ 10 * cap → count + 1 < cap → binds (pushed M cap (count + 1) u x f) cap (count + 1) ≡ binds M cap count ++ (bind u x f ∷ [])
+pub pushed-binds : (M : List ℕ) (cap count u x f : ℕ) → length M ≡ 12 * cap → count + 1 < cap → binds (pushed M cap (count + 1) u x f) cap (count + 1) ≡ binds M cap count ++ (bind u x f ∷ [])
 pushed-binds M cap count u x f long low =
     let q : count + 1 ≡ suc count = omega arith in
     let e : 1 + count ≡ count + 1 = omega arith in

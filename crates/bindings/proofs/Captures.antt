@@ -39,7 +39,7 @@ module _ (M : List ℕ) (cap count u f : ℕ) (S : Store M cap count) (low : cou
   unfolding P at-table
   M′ = captured M cap (count + 1) u f
 
-  p-long : length P ≡ 10 * cap
+  p-long : length P ≡ 12 * cap
   unfolding P
   p-long = pushed-long M cap (count + 1) u 0 f (S .long) low
 
@@ -166,7 +166,7 @@ module _ (M : List ℕ) (cap count u f : ℕ) (S : Store M cap count) (low : cou
     fresh = λ b l h. near (3 * cap + b) (omega arith) (omega arith) ∙ S .fresh b (omega arith) h;
   }
     where
-      long : length M′ ≡ 10 * cap
+      long : length M′ ≡ 12 * cap
       long = unfold M′ in simp length-set (S .long)
 
   pub binds-captured : binds (captured M cap (count + 1) u f) cap (count + 1) ≡ binds M cap count ++ (bind u 0 f ∷ [])

@@ -79,7 +79,7 @@ module _ (M : List ℕ) (cap count u x f : ℕ) (S : Store M cap count) (low : c
       go true = (omega arith, omega arith)
       go false = (omega arith, omega arith)
 
-  p-long : length P ≡ 10 * cap
+  p-long : length P ≡ 12 * cap
   p-long = pushed-long M cap (count + 1) u x f (S .long) low
 
   p-later : (j : ℕ) → 3 * cap ≤ j → getD P j 0 ≡ getD M j 0
@@ -144,7 +144,7 @@ module _ (M : List ℕ) (cap count u x f : ℕ) (S : Store M cap count) (low : c
   unfolding M′ I L
   shape = refl
 
-  long : length M′ ≡ 10 * cap
+  long : length M′ ≡ 12 * cap
   long = ap length shape ∙ simp length-set (S .long)
 
   keeps : (j : ℕ) → (j ≡ I → ⊥) → (j ≡ la → ⊥) → getD M′ j 0 ≡ getD P j 0

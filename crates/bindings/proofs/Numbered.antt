@@ -48,7 +48,7 @@ module _ (N : Names) (M : List ℕ) (cap count : ℕ) (S : Store M cap count) (f
   arguments-number = S .arguments f h ∙ sym (number-capture N 2 f (omega arith) (binds M cap count) (S .bare))
 
 -- an array of zeros holds no binding
-pub no-bindings : (M : List ℕ) (cap : ℕ) → length M ≡ 10 * cap → 0 < cap → ((i : ℕ) → getD M i 0 ≡ 0) → Store M cap 0
+pub no-bindings : (M : List ℕ) (cap : ℕ) → length M ≡ 12 * cap → 0 < cap → ((i : ℕ) → getD M i 0 ≡ 0) → Store M cap 0
 unfolding bindsFrom firstWhere lastWhere
 no-bindings M cap l c z = record {
   long = l;

@@ -1,3 +1,4 @@
 pub mod Search
 pub mod Store
 pub mod Post
+pub mod Filed

@@ -1,4 +1,4 @@
--- The bindings in a local array of ten tables of cap entries each: the record's three words and the next of its chain, by binding number; the capture of `this` and of `arguments`,
+-- The bindings in the first ten tables of a local array, of cap entries each (behind them two more, Filed.antt): the record's three words and the next of its chain, by binding number; the capture of `this` and of `arguments`,
 -- the first and last accessor and the first and last parameter, by frame. So that no number is searched for outside its frame. Assumes nothing.
 use mathlib.Core.Path.{_≡_}
 use mathlib.Core.List.{List, [], _∷_}
@@ -48,7 +48,7 @@ Bare (bind u x f ∷ bs) = ((u ≤ 2) → x ≡ 0) × Bare bs
 
 -- the array holds these count bindings, and its tables are right
 pub record Store (M : List ℕ) (cap count : ℕ) : Type 0 where
-  pub long : length M ≡ 10 * cap
+  pub long : length M ≡ 12 * cap
   pub room : count < cap
   pub bare : Bare (binds M cap count)
   pub this : (f : ℕ) → f < cap → getD M (4 * cap + f) 0 ≡ firstWhere (captureOf 1 f) 1 (binds M cap count)

@@ -2,9 +2,12 @@
 // back by its own operations.
 use crate::add;
 use crate::add_params;
+use crate::bucket;
 use crate::capture_table;
 use crate::entry;
+use crate::file;
 use crate::is_it;
+use crate::pick;
 use crate::push;
 use crate::put;
 ghost use mathlib.Core.Path.{_≡_};
@@ -17,6 +20,7 @@ ghost use Rattle.steps.specs.Bindings.{note, number, paramsOf};
 ghost use Rattle.bindings.specs.Search.{noteCapture, isAccessor};
 ghost use Rattle.bindings.specs.Store.{Store, binds};
 ghost use Rattle.bindings.specs.Post.{Kept, Asked};
+ghost use Rattle.bindings.specs.Filed.{Filed, behind};
 
 pub struct Frame {
     pub row: usize,
@@ -30,6 +34,7 @@ impl Frame {
         requires { ⌜ Asked (now made) cap (self .row) (self .count) (noteCapture u (self .row) (binds (now made) cap (self .count))) ⌝ }
         ensures { λ r. ⌜ Kept (now (made .exit)) cap (noteCapture u (self .row) (binds (now (made .entry)) cap (self .count))) (r .count) ⌝ }
         ensures { λ r. ⌜ r .row ≡ self .row ⌝ }
+        ensures { λ _. ⌜ behind cap (now (made .exit)) ≡ behind cap (now (made .entry)) ⌝ }
     {
         let row = self.row;
         let count = self.count;
@@ -48,6 +53,7 @@ impl Frame {
         requires { ⌜ Asked (now made) cap (self .row) (self .count) (binds (now made) cap (self .count) ++ paramsOf (self .row) (binds (now made) cap (self .count))) ⌝ }
         ensures { λ r. ⌜ Kept (now (made .exit)) cap (binds (now (made .entry)) cap (self .count) ++ paramsOf (self .row) (binds (now (made .entry)) cap (self .count))) (r .count) ⌝ }
         ensures { λ r. ⌜ r .row ≡ self .row ⌝ }
+        ensures { λ _. ⌜ behind cap (now (made .exit)) ≡ behind cap (now (made .entry)) ⌝ }
     {
         let row = self.row;
         let mut count = self.count;
@@ -62,7 +68,7 @@ impl Frame {
     }
 
     // The number of the frame's accessor of that use (3 get, 4 set) and property, 0 where it has none.
-    // The accessors of a frame are searched one by one.
+    // The accessors of its bucket are looked at one by one, from the last to the first.
     pub fn accessor(
         self,
         made: &[u32],
@@ -75,18 +81,20 @@ impl Frame {
         requires { ⌜ (Store (now made) cap (self .count)) × ((self .row < cap) × (cap ≤ 16384)) ⌝ }
         requires { ⌜ GivenNames (now names) (now text) ⌝ }
         requires { ⌜ isAccessor u ≡ true ⌝ }
+        requires { ⌜ Filed (now names) (now text) (behind cap (now made)) cap (binds (now made) cap (self .count)) ⌝ }
         ensures { λ r. ⌜ (r ≡ number (namesOf (now (names .entry)) (now (text .entry))) (binds (now (made .entry)) cap (self .count)) u (self .row) x) × (r < cap) ⌝ }
     {
         let row = self.row;
         let count = self.count;
-        let mut b = entry(made, 6 * cap + row);
+        let h = bucket(names, text, cap, u, row, x);
+        let mut found: usize = 0;
+        let mut b = entry(made, 10 * cap + h);
         while b != 0 {
-            if is_it(made, cap, names, text, b, u, x) {
-                return b;
-            }
-            b = entry(made, 3 * cap + b);
+            let it = is_it(made, cap, names, text, b, u, row, x);
+            found = pick(it, b, found);
+            b = entry(made, 10 * cap + (cap + b));
         }
-        0
+        found
     }
 
     // Notes an accessor of that use and property, where the frame has none yet.
@@ -102,17 +110,19 @@ impl Frame {
         requires { ⌜ Asked (now made) cap (self .row) (self .count) (note (namesOf (now names) (now text)) u (self .row) x (binds (now made) cap (self .count))) ⌝ }
         requires { ⌜ GivenNames (now names) (now text) ⌝ }
         requires { ⌜ isAccessor u ≡ true ⌝ }
+        requires { ⌜ Filed (now names) (now text) (behind cap (now made)) cap (binds (now made) cap (self .count)) ⌝ }
         ensures { λ r. ⌜ Kept (now (made .exit)) cap (note (namesOf (now (names .entry)) (now (text .entry))) u (self .row) x (binds (now (made .entry)) cap (self .count))) (r .count) ⌝ }
         ensures { λ r. ⌜ r .row ≡ self .row ⌝ }
+        ensures { λ _. ⌜ Filed (now (names .entry)) (now (text .entry)) (behind cap (now (made .exit))) cap (note (namesOf (now (names .entry)) (now (text .entry))) u (self .row) x (binds (now (made .entry)) cap (self .count))) ⌝ }
     {
         let row = self.row;
         let count = self.count;
         if self.accessor(made, cap, names, text, u as usize, x as usize) != 0 {
             return self;
         }
-        Frame {
-            row,
-            count: add(made, cap, count, u, x, row, false),
-        }
+        let b = add(made, cap, count, u, x, row, false);
+        let h = bucket(names, text, cap, u as usize, row, x as usize);
+        file(made, cap, h, b);
+        Frame { row, count: b }
     }
 }

@@ -1,20 +1,21 @@
-// The bindings that are made, in a local array of ten tables of `cap` words each. By binding number:
+// The bindings that are made, in a local array of twelve tables of `cap` words each. By binding number:
 // use, property, frame, and the next of its chain. By frame: the captures of `this` and of
-// `arguments`, the first and last accessor, the first and last parameter of accessors.
+// `arguments`, the first and last accessor, the first and last parameter of accessors. By bucket: its
+// last accessor; by accessor: the one before it in its bucket.
 pub mod frame;
 
 ghost use mathlib.Core.Path.{_≡_};
-ghost use mathlib.Core.Bool.{Bool, true, cond, _&&_};
-ghost use lib.Dec.{eqb};
-ghost use Rattle.rows.specs.Names.{sameName};
+ghost use mathlib.Core.Bool.{Bool, true, cond};
 ghost use Rattle.spelling.specs.Spelling.{GivenNames};
 ghost use Prim.Native.Nat.{ℕ, _+_, _*_, _<_, _≤_};
 ghost use mathlib.Core.List.{List, [], _∷_, _++_};
-ghost use Rattle.steps.specs.Bindings.{Binding, Binding.bind};
+ghost use Rattle.steps.specs.Outcome.{namesOf};
+ghost use Rattle.steps.specs.Bindings.{Binding, Binding.bind, is};
 ghost use lib.ListN.{length, getD, set};
 ghost use Rattle.bindings.specs.Search.{isParam, isAccessor, oneParam, paramsFor};
-ghost use Rattle.bindings.specs.Store.{Store, binds, pushed, captured, chained, captureTable, firstTable, lastTable, linkTable};
+ghost use Rattle.bindings.specs.Store.{Store, binds, bindAt, pushed, captured, chained, captureTable, firstTable, lastTable, linkTable};
 ghost use Rattle.bindings.specs.Post.{Kept, Asked, Room};
+ghost use Rattle.bindings.specs.Filed.{behind, bucketOf};
 
 fn wide(x: u32) -> usize
     ensures { λ r. ⌜ r ≡ x ⌝ }
@@ -32,7 +33,7 @@ pub fn entry(made: &[u32], j: usize) -> usize
 
 // Writes the record of binding b.
 fn push(made: &mut [u32], cap: usize, b: usize, u: u32, x: u32, f: usize)
-    requires { ⌜ (length (now made) ≡ 10 * cap) × ((b < cap) × ((f < cap) × (cap ≤ 16384))) ⌝ }
+    requires { ⌜ (length (now made) ≡ 12 * cap) × ((b < cap) × ((f < cap) × (cap ≤ 16384))) ⌝ }
     ensures { λ _. ⌜ now (made .exit) ≡ pushed (now (made .entry)) cap b u x f ⌝ }
 {
     made[b] = u;
@@ -99,7 +100,7 @@ fn put_both(made: &mut [u32], i: usize, j: usize, b: usize)
 
 // Puts binding b behind the last of its chain.
 fn chain(made: &mut [u32], cap: usize, param: bool, f: usize, b: usize)
-    requires { ⌜ (length (now made) ≡ 10 * cap) × ((b < cap) × ((f < cap) × (cap ≤ 16384))) ⌝ }
+    requires { ⌜ (length (now made) ≡ 12 * cap) × ((b < cap) × ((f < cap) × (cap ≤ 16384))) ⌝ }
     requires { ⌜ getD (now made) (lastTable param cap f) 0 < cap ⌝ }
     ensures { λ _. ⌜ now (made .exit) ≡ chained (now (made .entry)) cap param f b ⌝ }
 {
@@ -123,6 +124,7 @@ pub fn add(
     requires { ⌜ cond param (isParam u) (isAccessor u) ≡ true ⌝ }
     ensures { λ r. ⌜ Kept (now (made .exit)) cap (binds (now (made .entry)) cap count ++ (bind u x f ∷ [])) r ⌝ }
     ensures { λ r. ⌜ r ≡ count + 1 ⌝ }
+    ensures { λ _. ⌜ behind cap (now (made .exit)) ≡ behind cap (now (made .entry)) ⌝ }
 {
     let b = count + 1;
     push(made, cap, b, u, x, f);
@@ -135,6 +137,7 @@ fn add_one(made: &mut [u32], cap: usize, count: usize, wanted: bool, u: u32, f: 
     requires { ⌜ Asked (now made) cap f count (binds (now made) cap count ++ oneParam wanted u f) ⌝ }
     requires { ⌜ isParam u ≡ true ⌝ }
     ensures { λ r. ⌜ Kept (now (made .exit)) cap (binds (now (made .entry)) cap count ++ oneParam wanted u f) r ⌝ }
+    ensures { λ _. ⌜ behind cap (now (made .exit)) ≡ behind cap (now (made .entry)) ⌝ }
 {
     if wanted {
         return add(made, cap, count, u, 0, f, true);
@@ -146,19 +149,62 @@ fn add_one(made: &mut [u32], cap: usize, count: usize, wanted: bool, u: u32, f: 
 fn add_params(made: &mut [u32], cap: usize, count: usize, u: usize, x: usize, f: usize) -> usize
     requires { ⌜ Asked (now made) cap f count (binds (now made) cap count ++ paramsFor u x f) ⌝ }
     ensures { λ r. ⌜ Kept (now (made .exit)) cap (binds (now (made .entry)) cap count ++ paramsFor u x f) r ⌝ }
+    ensures { λ _. ⌜ behind cap (now (made .exit)) ≡ behind cap (now (made .entry)) ⌝ }
 {
     let computed = add_one(made, cap, count, x == 0, 5, f);
     add_one(made, cap, computed, u == 4, 6, f)
 }
 
-// Whether binding b has that use and property.
-fn is_it(made: &[u32], cap: usize, names: &[u8], text: &[u8], b: usize, u: usize, x: usize) -> bool
-    requires { ⌜ (cap + b < length (now made)) × (cap ≤ 16384) ⌝ }
+// Whether binding b has that use, frame and property.
+fn is_it(
+    made: &[u32],
+    cap: usize,
+    names: &[u8],
+    text: &[u8],
+    b: usize,
+    u: usize,
+    f: usize,
+    x: usize,
+) -> bool
+    requires { ⌜ (2 * cap + b < length (now made)) × (cap ≤ 16384) ⌝ }
     requires { ⌜ GivenNames (now names) (now text) ⌝ }
-    ensures { λ r. ⌜ r ≡ (eqb (getD (now (made .entry)) b 0) u && sameName (now (names .entry)) (now (text .entry)) (getD (now (made .entry)) (cap + b) 0) x) ⌝ }
+    ensures { λ r. ⌜ r ≡ is (namesOf (now (names .entry)) (now (text .entry))) u f x (bindAt (now (made .entry)) cap b) ⌝ }
 {
+    if entry(made, 2 * cap + b) != f {
+        return false;
+    }
     if entry(made, b) != u {
         return false;
     }
     spelling::same_name(names, text, entry(made, cap + b), x)
+}
+
+// The bucket of an accessor.
+fn bucket(names: &[u8], text: &[u8], cap: usize, u: usize, f: usize, x: usize) -> usize
+    requires { ⌜ GivenNames (now names) (now text) ⌝ }
+    requires { ⌜ (0 < cap) × ((f < 16384) × (u < 16384)) ⌝ }
+    ensures { λ r. ⌜ (r ≡ bucketOf (now (names .entry)) (now (text .entry)) cap u f x) × (r < cap) ⌝ }
+{
+    let number = spelling::hash(names, text, x);
+    (number + 613 * f + u) % cap
+}
+
+// b where it is taken, else what was found before.
+fn pick(taken: bool, b: usize, found: usize) -> usize
+    ensures { λ r. ⌜ r ≡ cond taken b found ⌝ }
+{
+    if taken {
+        return b;
+    }
+    found
+}
+
+// Puts accessor b into bucket h.
+fn file(made: &mut [u32], cap: usize, h: usize, b: usize)
+    requires { ⌜ (length (now made) ≡ 12 * cap) × ((b < cap) × ((h < cap) × (cap ≤ 16384))) ⌝ }
+    ensures { λ _. ⌜ now (made .exit) ≡ set (set (now (made .entry)) (10 * cap + (cap + b)) (getD (now (made .entry)) (10 * cap + h) 0)) (10 * cap + h) b ⌝ }
+{
+    let last = 10 * cap + h;
+    made[10 * cap + (cap + b)] = made[last];
+    made[last] = b as u32;
 }

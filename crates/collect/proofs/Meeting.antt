@@ -13,12 +13,18 @@ use Rattle.steps.specs.Bindings.{Binding, meet, note}
 use Rattle.bindings.specs.Search.{isAccessor, noteCapture}
 use Rattle.bindings.specs.Store.{Store, binds}
 use Rattle.bindings.specs.Post.{Kept, Asked}
+use Rattle.bindings.specs.Filed.{Filed, behind}
+use Rattle.bindings.proofs.Filing.{filed-capture}
 use Rattle.bindings.proofs.Numbered.{note-capture}
 use Rattle.passes.specs.View.{opOf}
 use Rattle.passes.specs.declared.Becomes.{Becomes}
 use Rattle.passes.specs.declared.Becomes.the-variants as becomes
 use Rattle.plan.specs.Frames.{OpLow}
 use Rattle.collect.specs.Collecting.{Meets, isCalled, leaveCapture}
+
+-- the same bindings, as another list has them
+pub filed-as : {names text I : List ℕ} {cap : ℕ} {bs ds : List Binding} → Filed names text I cap bs → bs ≡ ds → Filed names text I cap ds
+filed-as {names} {text} {I} {cap} F e = subst (Filed names text I cap) e F
 
 module _ (N : Names) (M : List ℕ) (cap count : ℕ) (op : Becomes) where
   abbrev met : List Binding
@@ -50,6 +56,9 @@ module _ (N : Names) (M : List ℕ) (cap count : ℕ) (op : Becomes) where
       record { store = m .store; row-low = name-low .1 .1; cap-low = m .cap-low; room = subst (λ (l : List Binding). length l < cap) (sym name-is) (m .room) },
     )
 
+    pub name-filed : (M′ : List ℕ) → Filed (N .pairs) (N .text) (behind cap M) cap (binds M cap count) → behind cap M′ ≡ behind cap M → Filed (N .pairs) (N .text) (behind cap M′) cap met
+    name-filed M′ F e = subst (λ (I : List ℕ). Filed (N .pairs) (N .text) I cap met) (sym e) (subst (λ (l : List Binding). Filed (N .pairs) (N .text) (behind cap M) cap l) name-is (filed-capture u f (name-low .1 .0) F))
+
     pub name-meets : (M′ : List ℕ) (count′ : ℕ) → Kept M′ cap (noteCapture u f (binds M cap count)) count′ → Kept M′ cap met count′
     name-meets M′ count′ k = subst (λ (l : List Binding). Kept M′ cap l count′) name-is k
 
@@ -78,6 +87,9 @@ module _ (N : Names) (M : List ℕ) (cap count : ℕ) (op : Becomes) where
 
     pub call-meets : (M′ : List ℕ) (count′ : ℕ) → Kept M′ cap (note N u f x (binds M cap count)) count′ → Kept M′ cap met count′
     call-meets M′ count′ k = subst (λ (l : List Binding). Kept M′ cap l count′) call-is k
+
+    pub call-filed : (M′ : List ℕ) → Filed (N .pairs) (N .text) (behind cap M′) cap (note N u f x (binds M cap count)) → Filed (N .pairs) (N .text) (behind cap M′) cap met
+    call-filed M′ F = subst (λ (l : List Binding). Filed (N .pairs) (N .text) (behind cap M′) cap l) call-is F
 
 -- the new This, captured or not
 module _ (c : Ctx) (op : Op) (bs : List Binding) (r : Bool) (q : r ≡ isCalled op) where

@@ -1,6 +1,6 @@
 -- The walk of a list of siblings, row by row. Assumes nothing.
 use mathlib.Core.Path.{_≡_, refl, ap, sym, subst, _∙_}
-use mathlib.Core.Bool.{Bool, cond, _&&_}
+use mathlib.Core.Bool.{Bool, true, false, cond, _&&_}
 use mathlib.Core.List.{List}
 use Prim.Native.Nat.{ℕ, _+_, _<_, _≤_}
 use native.Mathlib.Omega.{arith}
@@ -17,8 +17,11 @@ use Rattle.steps.specs.Slots.{free}
 use Rattle.steps.specs.Context.{Spot, spot, enter, into, actC, collectC}
 use Rattle.steps.proofs.Records.{collect-grows, leave-grows, closed-grows}
 use Rattle.below.specs.Below.{children}
+use Rattle.bindings.specs.Search.{noteCapture}
 use Rattle.bindings.specs.Store.{Store, Bare, binds}
 use Rattle.bindings.specs.Post.{Kept}
+use Rattle.bindings.specs.Filed.{Filed, behind}
+use Rattle.bindings.proofs.Filing.{filed-capture, filed-closed}
 use Rattle.bindings.proofs.Numbered.{note-capture}
 use Rattle.passes.specs.View.{opOf}
 use Rattle.plan.specs.declared.Act.{Act as Acted}
@@ -29,6 +32,7 @@ use Rattle.plan.proofs.Frames.{row-act-low}
 use Rattle.plan.proofs.Leaving.{rows-size}
 use Rattle.plan.specs.Staying.{Stays}
 use Rattle.collect.specs.Collecting.{Meets, Finishes, RowCollects, Collects, isCalled, leaveCapture, rowC}
+use Rattle.collect.proofs.Meeting.{filed-as}
 use Rattle.collect.proofs.Finishing.{shorter}
 
 -- the code's `leave` is the steps'
@@ -38,6 +42,15 @@ leave-same N c (row k a n) bs b = refl
 leave-same N c drop bs b = refl
 leave-same N c (name u f) bs b = refl
 leave-same N c (call u f x t) bs b = ap (λ (l : List Binding). cond (t && c .takesThis) l bs) (note-capture N 1 (c .thisAt) (omega arith) bs b)
+
+-- .. and puts no accessor in
+filed-left : {names text I : List ℕ} {cap : ℕ} {bs : List Binding} (c : Ctx) (op : Op) → Filed names text I cap bs → Filed names text I cap (leaveCapture c op bs)
+unfolding leaveCapture
+filed-left {names} {text} {I} {cap} {bs} c op F = go (isCalled op && c .takesThis)
+  where
+    go : (t : Bool) → Filed names text I cap (cond t (noteCapture 1 (c .thisAt) bs) bs)
+    go true = filed-capture 1 (c .thisAt) (omega arith) F
+    go false = F
 
 -- one row: what it meets, its children, and what is left to do after them
 module _ (N : Names) (w : Switches) {rows : List ℕ} {cap : ℕ} {M : List ℕ} {i stop : ℕ} {q : Spot} {count : ℕ}
@@ -75,6 +88,9 @@ module _ (N : Names) (w : Switches) {rows : List ℕ} {cap : ℕ} {M : List ℕ}
 
     pub passed-kept : {M′ : List ℕ} {r : ℕ} → Kept M′ cap passed r → Kept M′ cap after r
     passed-kept k = record { store = k .store; list = k .list ∙ passed-same }
+
+    pub passed-filed : {I : List ℕ} → Filed (N .pairs) (N .text) I cap passed → Filed (N .pairs) (N .text) I cap after
+    passed-filed F = filed-as F passed-same
 
     -- .. and one without children adds nothing
     pub passed-leaf : stop ≤ i + 1 → Kept M cap after count
@@ -149,6 +165,9 @@ module _ (N : Names) (w : Switches) {rows : List ℕ} {cap : ℕ} {M : List ℕ}
         pub row-finishes : Finishes M₂ cap l₂ (cx .thisAt) f after-code
         row-finishes = record { store = k₂ .store; cap-low = P .cap-low; this-low = subst (λ (c : Ctx). c .thisAt < cap) (sym xs) (P .low .this); frame-low = subst (λ (m : ℕ). m < cap) (sym fs) (act-is-low .more .this); room = subst (λ (l : List Binding). length l < cap) (sym after-same) (P .room) }
 
+        pub row-filed : (M₃ : List ℕ) → Filed (N .pairs) (N .text) (behind cap M₂) cap inside-code → behind cap M₃ ≡ behind cap M₂ → Filed (N .pairs) (N .text) (behind cap M₃) cap after
+        row-filed M₃ F e = subst (λ (I : List ℕ). Filed (N .pairs) (N .text) I cap after) (sym e) (filed-as (filed-closed b f (filed-left cx (opOf (r .op)) (filed-as F (sym (k₂ .list))))) after-same)
+
         pub row-kept : {M₃ : List ℕ} {l₃ : ℕ} → Kept M₃ cap after-code l₃ → Kept M₃ cap after l₃
         row-kept k = record { store = k .store; list = k .list ∙ after-same }
 
@@ -158,6 +177,7 @@ pub record Walking (N : Names) (w : Switches) (ws : List ℕ) (n : ℕ) (more : 
   pub range : Range ws n i e
   pub start : from ≤ i
   pub store : Store M cap count
+  pub filed : Filed (N .pairs) (N .text) (behind cap M) cap (binds M cap count)
   pub low : FramesBelow cap (q .ctx)
 
 -- nothing is left
@@ -166,6 +186,10 @@ pub walked : {N : Names} {w : Switches} {ws : List ℕ} {n : ℕ} {more : Spot} 
 unfolding collectC
 walked {N} {w} {ws} {n} {more} {whole} {from} {e} {cap} {M} {i} {q} {count} W h =
     record { store = W .store; list = ap (λ (f : Rows). collectC N w q more i f (binds M cap count)) (sym (rows-none ws i e h)) ∙ W .same }
+
+pub walked-filed : {N : Names} {w : Switches} {ws : List ℕ} {n : ℕ} {more : Spot} {whole : List Binding} {from e cap : ℕ} {M : List ℕ} {i : ℕ} {q : Spot} {count : ℕ}
+    → Walking N w ws n more whole from e cap M i q count → e ≤ i → Filed (N .pairs) (N .text) (behind cap M) cap whole
+walked-filed W h = filed-as (W .filed) (walked W h .list)
 
 -- one row of the list
 module _ {N : Names} {w : Switches} {ws : List ℕ} {n : ℕ} {more : Spot} {whole : List Binding} {from e cap : ℕ} {M : List ℕ} {i : ℕ} {q : Spot} {count : ℕ}
@@ -186,12 +210,13 @@ module _ {N : Names} {w : Switches} {ws : List ℕ} {n : ℕ} {more : Spot} {who
   pub here-room : length here < cap
   here-room = shorter here _ cap (collect-grows N w (rowsAt ws (endAt ws i) e) more more (endAt ws i) here) (subst (λ (l : List Binding). length l < cap) (sym (W .same) ∙ step) (P .room))
 
-  pub walks-on : {x : ℕ} → x ≡ endAt ws i → {M₃ : List ℕ} {l₃ : ℕ} → Kept M₃ cap here l₃ → Walking N w ws n more whole from e cap M₃ x more l₃
-  walks-on {x} y {M₃} {l₃} k₃ = record {
+  pub walks-on : {x : ℕ} → x ≡ endAt ws i → {M₃ : List ℕ} {l₃ : ℕ} → Kept M₃ cap here l₃ → Filed (N .pairs) (N .text) (behind cap M₃) cap here → Walking N w ws n more whole from e cap M₃ x more l₃
+  walks-on {x} y {M₃} {l₃} k₃ F₃ = record {
     same = ap (λ (m : ℕ). collectC N w more more m (rowsAt ws m e) (binds M₃ cap l₃)) y
         ∙ ap (collectC N w more more (endAt ws i) (rowsAt ws (endAt ws i) e)) (k₃ .list) ∙ sym step ∙ W .same;
     range = subst (λ (m : ℕ). Range ws n m e) (sym y) (later ws n good i e (W .range) lt);
     start = let a = good .ahead i low-row in let s = W .start in omega arith;
     store = k₃ .store;
+    filed = filed-as F₃ (sym (k₃ .list));
     low = P .more-low;
   }

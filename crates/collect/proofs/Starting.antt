@@ -12,8 +12,15 @@ use Rattle.steps.specs.Bindings.{Binding}
 use Rattle.steps.specs.Context.{Spot, spot, start, collectC, madeC}
 use Rattle.bindings.specs.Store.{binds, bindsFrom}
 use Rattle.bindings.specs.Post.{Kept}
+use Rattle.bindings.specs.Filed.{Filed}
+use Rattle.collect.proofs.Meeting.{filed-as}
 use Rattle.plan.specs.Frames.{FramesBelow}
 use Rattle.collect.specs.Collecting.{Collects, Starts}
+
+-- no binding is in the array yet
+pub no-binds : {names text I : List ℕ} {cap : ℕ} (M : List ℕ) → Filed names text I cap [] → Filed names text I cap (binds M cap 0)
+unfolding bindsFrom
+no-binds M F = F
 
 module _ (N : Names) (w : Switches) (rows : List ℕ) {M : List ℕ} {cap : ℕ} (P : Starts (rowsIn rows) M cap (madeC N w (table rows))) {s : Spot} (p : s ≡ spot start free) where
   abbrev walk : List Binding
@@ -31,3 +38,6 @@ module _ (N : Names) (w : Switches) (rows : List ℕ) {M : List ℕ} {cap : ℕ}
 
   pub program-kept : {M′ : List ℕ} {count : ℕ} → Kept M′ cap walk count → Kept M′ cap (madeC N w (table rows)) count
   program-kept k = record { store = k .store; list = k .list ∙ walk-is }
+
+  pub program-filed : {I : List ℕ} → Filed (N .pairs) (N .text) I cap walk → Filed (N .pairs) (N .text) I cap (madeC N w (table rows))
+  program-filed F = filed-as F walk-is

@@ -16,6 +16,7 @@ use plan::stays::stays;
 ghost use mathlib.Core.Path.{_≡_};
 ghost use mathlib.Core.Bool.{Bool};
 ghost use Prim.Native.Nat.{ℕ};
+ghost use mathlib.Core.List.{[]};
 ghost use Rattle.rows.specs.Words.{words, rowsIn};
 ghost use Rattle.rows.specs.Forest.{rowsAt, table};
 ghost use Rattle.spelling.specs.Spelling.{GivenNames};
@@ -24,6 +25,7 @@ ghost use Rattle.steps.specs.Bindings as steps;
 ghost use Rattle.steps.specs.Context.{collectC, madeC};
 ghost use Rattle.bindings.specs.Store.{binds};
 ghost use Rattle.bindings.specs.Post.{Kept, Asked};
+ghost use Rattle.bindings.specs.Filed.{Filed, behind};
 ghost use Rattle.acts.specs.View.{switchesOf, contextOf};
 ghost use Rattle.passes.specs.View.{opOf};
 ghost use Rattle.plan.specs.Placing.{placeOf};
@@ -34,7 +36,9 @@ ghost use Rattle.collect.specs.Collecting.{Meets, Finishes, RowCollects,
 fn meet(op: Becomes, made: &mut [u32], cap: usize, count: usize, names: &[u8], text: &[u8]) -> usize
     requires { ⌜ Meets (now made) cap count op (steps.meet (namesOf (now names) (now text)) (opOf op) (binds (now made) cap count)) ⌝ }
     requires { ⌜ GivenNames (now names) (now text) ⌝ }
+    requires { ⌜ Filed (now names) (now text) (behind cap (now made)) cap (binds (now made) cap count) ⌝ }
     ensures { λ r. ⌜ Kept (now (made .exit)) cap (steps.meet (namesOf (now (names .entry)) (now (text .entry))) (opOf op) (binds (now (made .entry)) cap count)) r ⌝ }
+    ensures { λ _. ⌜ Filed (now (names .entry)) (now (text .entry)) (behind cap (now (made .exit))) cap (steps.meet (namesOf (now (names .entry)) (now (text .entry))) (opOf op) (binds (now (made .entry)) cap count)) ⌝ }
 {
     match op {
         Becomes::Row {
@@ -86,6 +90,7 @@ fn is_called(op: Becomes) -> bool
 fn leave(op: Becomes, context: Context, made: &mut [u32], cap: usize, count: usize) -> usize
     requires { ⌜ Asked (now made) cap (context .«this_at») count (leaveCapture (contextOf context) (opOf op) (binds (now made) cap count)) ⌝ }
     ensures { λ r. ⌜ Kept (now (made .exit)) cap (leaveCapture (contextOf context) (opOf op) (binds (now (made .entry)) cap count)) r ⌝ }
+    ensures { λ _. ⌜ behind cap (now (made .exit)) ≡ behind cap (now (made .entry)) ⌝ }
 {
     if !(is_called(op) & context.takes_this) {
         return count;
@@ -111,6 +116,7 @@ fn finish(
 ) -> usize
     requires { ⌜ Finishes (now made) cap count (context .«this_at») frame (steps.closed closing frame (leaveCapture (contextOf context) (opOf op) (binds (now made) cap count))) ⌝ }
     ensures { λ r. ⌜ Kept (now (made .exit)) cap (steps.closed closing frame (leaveCapture (contextOf context) (opOf op) (binds (now (made .entry)) cap count))) r ⌝ }
+    ensures { λ _. ⌜ behind cap (now (made .exit)) ≡ behind cap (now (made .entry)) ⌝ }
 {
     let left = leave(op, context, made, cap, count);
     if !closing {
@@ -139,7 +145,9 @@ fn collect_row(
 ) -> usize
     requires { ⌜ RowCollects (now rows) (now made) cap count (placeOf q) i stop (rowC (namesOf (now names) (now text)) (switchesOf switches) (placeOf q) (words (now rows)) i (binds (now made) cap count)) ⌝ }
     requires { ⌜ GivenNames (now names) (now text) ⌝ }
+    requires { ⌜ Filed (now names) (now text) (behind cap (now made)) cap (binds (now made) cap count) ⌝ }
     ensures { λ r. ⌜ Kept (now (made .exit)) cap (rowC (namesOf (now (names .entry)) (now (text .entry))) (switchesOf switches) (placeOf q) (words (now (rows .entry))) i (binds (now (made .entry)) cap count)) r ⌝ }
+    ensures { λ _. ⌜ Filed (now (names .entry)) (now (text .entry)) (behind cap (now (made .exit))) cap (rowC (namesOf (now (names .entry)) (now (text .entry))) (switchesOf switches) (placeOf q) (words (now (rows .entry))) i (binds (now (made .entry)) cap count)) ⌝ }
 {
     let from = i + 1;
     let kind = kind_at(rows, i);
@@ -204,7 +212,9 @@ pub fn collect(
     requires { ⌜ Ranged (now rows) from end ⌝ }
     requires { ⌜ GivenNames (now names) (now text) ⌝ }
     requires { ⌜ Collects (rowsIn (now rows)) (now made) cap count (placeOf one) (placeOf more) (collectC (namesOf (now names) (now text)) (switchesOf switches) (placeOf one) (placeOf more) from (rowsAt (words (now rows)) from end) (binds (now made) cap count)) ⌝ }
+    requires { ⌜ Filed (now names) (now text) (behind cap (now made)) cap (binds (now made) cap count) ⌝ }
     ensures { λ r. ⌜ Kept (now (made .exit)) cap (collectC (namesOf (now (names .entry)) (now (text .entry))) (switchesOf switches) (placeOf one) (placeOf more) from (rowsAt (words (now (rows .entry))) from end) (binds (now (made .entry)) cap count)) r ⌝ }
+    ensures { λ _. ⌜ Filed (now (names .entry)) (now (text .entry)) (behind cap (now (made .exit))) cap (collectC (namesOf (now (names .entry)) (now (text .entry))) (switchesOf switches) (placeOf one) (placeOf more) from (rowsAt (words (now (rows .entry))) from end) (binds (now (made .entry)) cap count)) ⌝ }
 {
     let mut i = from;
     let mut q = one;
@@ -230,7 +240,9 @@ pub fn make_bindings(
     requires { ⌜ Ranged (now rows) 0 (rowsIn (now rows)) ⌝ }
     requires { ⌜ GivenNames (now names) (now text) ⌝ }
     requires { ⌜ Starts (rowsIn (now rows)) (now made) cap (madeC (namesOf (now names) (now text)) (switchesOf switches) (table (now rows))) ⌝ }
+    requires { ⌜ Filed (now names) (now text) (behind cap (now made)) cap [] ⌝ }
     ensures { λ r. ⌜ Kept (now (made .exit)) cap (madeC (namesOf (now (names .entry)) (now (text .entry))) (switchesOf switches) (table (now (rows .entry)))) r ⌝ }
+    ensures { λ _. ⌜ Filed (now (names .entry)) (now (text .entry)) (behind cap (now (made .exit))) cap (madeC (namesOf (now (names .entry)) (now (text .entry))) (switchesOf switches) (table (now (rows .entry)))) ⌝ }
 {
     let start = program();
     let end = rows.len() / 16;

@@ -30,6 +30,7 @@ use Rattle.output.proofs.Writing.{named}
 use Rattle.output.proofs.Recording.{none-copied}
 use Rattle.bindings.specs.Store.{binds}
 use Rattle.bindings.specs.Post.{Kept}
+use Rattle.bindings.specs.Filed.{Filed, behind}
 use Rattle.bindings.proofs.Arrays.{binds-length}
 use Rattle.acts.specs.View.{switchesOf}
 use Rattle.acts.specs.declared.switches.Switches.{Switches as Lent}
@@ -127,8 +128,8 @@ counted-room room {f} {total} d = let q : total ≡ size f = omega (arith, d .ne
 
 -- what the first walk leaves to the second
 pub collected : {s : Lent} {rows names text made M : List ℕ} {cap count : ℕ} → Ready (switchesOf s) rows names text made cap
-    → Kept M cap (madeC (namesOf names text) (switchesOf s) (table rows)) count → Collected rows names text M (record { switches = s; cap = cap; count = count })
-collected S K = record { accepted = S .accepted; on = S .on; kept = K; low = S .low; fits = S .fits }
+    → Kept M cap (madeC (namesOf names text) (switchesOf s) (table rows)) count → Filed names text (behind cap M) cap (madeC (namesOf names text) (switchesOf s) (table rows)) → Collected rows names text M (record { switches = s; cap = cap; count = count })
+collected S K F = record { accepted = S .accepted; on = S .on; kept = K; filed = F; low = S .low; fits = S .fits }
 
 -- the array M with the bindings of the first walk, and what the second walk then writes
 module _ (rows names text M : List ℕ) (v : Walk) (C : Collected rows names text M v) where
@@ -157,10 +158,10 @@ module _ (rows names text M : List ℕ) (v : Walk) (C : Collected rows names tex
   much-room room l = sym (le-leb (size made-rows) room (omega (arith, result-within 16384 128 w rows names text (C .accepted) .rows-by, ap size rows-made, counted)))
 
   -- what the second walk asks of the table and of the array, and that no cursor wraps
-  pub walk-asks : (Ranged rows 0 (rowsIn rows) × GivenNames names text) × (Holds M v (rowsIn rows) × (size made-rows < 2 ^ 32))
+  pub walk-asks : (Ranged rows 0 (rowsIn rows) × GivenNames names text) × (Holds names text M v (rowsIn rows) × (size made-rows < 2 ^ 32))
   walk-asks = (
     (given-range w rows names text (C .accepted), given-names w rows names text (C .accepted)),
-    (record { store = C .kept .store; cap-low = C .low; rows-low = C .fits }, subst (λ (t : Rows). size t < 2 ^ 32) rows-made (result-small 16384 128 w rows names text (C .accepted))),
+    (record { store = C .kept .store; filed = subst (Filed names text (behind (v .cap) M) (v .cap)) (sym (C .kept .list)) (C .filed); cap-low = C .low; rows-low = C .fits }, subst (λ (t : Rows). size t < 2 ^ 32) rows-made (result-small 16384 128 w rows names text (C .accepted))),
   )
 
   module _ (outRows outBindings : List ℕ) where

@@ -1,7 +1,7 @@
 -- What the functions below `convert` ask and promise. Assumes nothing.
 use mathlib.Core.Path.{_≡_}
 use mathlib.Core.Bool.{true, _||_}
-use mathlib.Core.List.{List}
+use mathlib.Core.List.{List, []}
 use Prim.Native.Nat.{ℕ, _≤_}
 use Rattle.rows.specs.Words.{rowsIn}
 use Rattle.rows.specs.Forest.{table}
@@ -12,6 +12,7 @@ use Rattle.steps.specs.Accepted.{Accepted}
 use Rattle.acts.specs.View.{switchesOf}
 use Rattle.bindings.specs.Store.{Store}
 use Rattle.bindings.specs.Post.{Kept}
+use Rattle.bindings.specs.Filed.{Filed, behind}
 use Rattle.emit.specs.declared.Walk.{Walk}
 use Rattle.converter.specs.Answer.{numberOf, placeOf, rowsOf, bindingsOf}
 use Rattle.converter.specs.Converting.{outcomeOf, Answers}
@@ -22,6 +23,7 @@ pub record Ready (w : Switches) (rows names text made : List ℕ) (cap : ℕ) : 
   pub accepted : Accepted 16384 128 w rows names text
   pub on : (enabled w || asyncOnly w) ≡ true
   pub empty : Store made cap 0
+  pub unfiled : Filed names text (behind cap made) cap []
   pub low : cap ≤ 16384
   pub fits : rowsIn rows ≤ cap
 
@@ -30,6 +32,7 @@ pub record Collected (rows names text M : List ℕ) (v : Walk) : Type 0 where
   pub accepted : Accepted 16384 128 (switchesOf (v .switches)) rows names text
   pub on : (enabled (switchesOf (v .switches)) || asyncOnly (switchesOf (v .switches))) ≡ true
   pub kept : Kept M (v .cap) (madeC (namesOf names text) (switchesOf (v .switches)) (table rows)) (v .count)
+  pub filed : Filed names text (behind (v .cap) M) (v .cap) (madeC (namesOf names text) (switchesOf (v .switches)) (table rows))
   pub low : v .cap ≤ 16384
   pub fits : rowsIn rows ≤ v .cap
 

@@ -82,7 +82,7 @@ fn small(
     ensures { λ r. ⌜ Gives (switchesOf switches) (now (rows .entry)) (now (names .entry)) (now (text .entry)) r
         (now («out_rows» .entry)) (now («out_rows» .exit)) (now («out_bindings» .entry)) (now («out_bindings» .exit)) ⌝ }
 {
-    let mut made = [0u32; 640];
+    let mut made = [0u32; 768];
     write_result(
         switches,
         rows,
@@ -109,7 +109,7 @@ fn middle(
     ensures { λ r. ⌜ Gives (switchesOf switches) (now (rows .entry)) (now (names .entry)) (now (text .entry)) r
         (now («out_rows» .entry)) (now («out_rows» .exit)) (now («out_bindings» .entry)) (now («out_bindings» .exit)) ⌝ }
 {
-    let mut made = [0u32; 10240];
+    let mut made = [0u32; 12288];
     write_result(
         switches,
         rows,
@@ -136,7 +136,7 @@ fn large(
     ensures { λ r. ⌜ Gives (switchesOf switches) (now (rows .entry)) (now (names .entry)) (now (text .entry)) r
         (now («out_rows» .entry)) (now («out_rows» .exit)) (now («out_bindings» .entry)) (now («out_bindings» .exit)) ⌝ }
 {
-    let mut made = [0u32; 163840];
+    let mut made = [0u32; 196608];
     write_result(
         switches,
         rows,

@@ -99,7 +99,7 @@ module _ (rows names text M : List ℕ) (v : Walk) (b sc : ℕ) (q : Spot) (i : 
     cond-low false x z m h k = k
 
     -- what the walkers of the row need
-    pub row-pre : At rows (rowsIn rows) i → GivenNames names text → Holds M v (rowsIn rows) → FramesBelow (v .cap) (q .ctx) → b ≤ 16384
+    pub row-pre : At rows (rowsIn rows) i → GivenNames names text → Holds names text M v (rowsIn rows) → FramesBelow (v .cap) (q .ctx) → b ≤ 16384
         → Small ws i → number N (listOf M v) 1 (frameIn p) 0 ≤ 16384 → RowPre rows names text M v p
     unfolding passOf
     row-pre g names-given holds low bound small few =
@@ -135,7 +135,7 @@ module _ (rows names text M : List ℕ) (v : Walk) (b sc : ℕ) (q : Place) (i s
     next = s .next;
   }
 
-  pub plan-is : At rows (rowsIn rows) i → GivenNames names text → Holds M v (rowsIn rows) → FramesBelow (v .cap) (placeOf q .ctx) → b ≤ 16384
+  pub plan-is : At rows (rowsIn rows) i → GivenNames names text → Holds names text M v (rowsIn rows) → FramesBelow (v .cap) (placeOf q .ctx) → b ≤ 16384
       → sl ≡ placeOf q .slot → k ≡ kindAt (words rows) i → a ≡ attrAt (words rows) i → n ≡ nameAt (words rows) i → e ≡ endAt (words rows) i
       → Takes (switchesOf (v .switches)) (placeOf q .ctx) (actC (namesOf names text) (switchesOf (v .switches)) (placeOf q) i (kindAt (words rows) i) (attrAt (words rows) i) (nameAt (words rows) i) (children (words rows) i)) A
       → Small (words rows) i → placeOf (A .more) .ctx .thisAt < v .cap → m ≡ getD M (4 * v .cap + placeOf (A .more) .ctx .thisAt) 0

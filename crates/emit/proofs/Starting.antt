@@ -24,7 +24,7 @@ module _ (rows names text M : List ℕ) (v : Walk) {s : Spot} (p : s ≡ spot st
   pub program-room : size (emitted rows names text M v) < 2 ^ 32 → 0 + size (listed rows names text M v 0 copy s s 0 (rowsIn rows)) < 2 ^ 32
   program-room h = let z = ap size program-rows in omega arith
 
-  pub program-pre : Ranged rows 0 (rowsIn rows) → GivenNames names text → Holds M v (rowsIn rows) → ListPre rows names text M v 0 s s 0 (rowsIn rows)
+  pub program-pre : Ranged rows 0 (rowsIn rows) → GivenNames names text → Holds names text M v (rowsIn rows) → ListPre rows names text M v 0 s s 0 (rowsIn rows)
   program-pre r g h =
       let f : FramesBelow (v .cap) (s .ctx) = let z = h .store .room in subst (λ (z : Spot). FramesBelow (v .cap) (z .ctx)) (sym p) (record { this = omega arith; super = omega arith; arguments = omega arith }) in
       record { range = r; named = g; holds = h; bound = omega arith; first = f; later = f }

@@ -158,7 +158,7 @@ module _ (rows names text M : List ℕ) (v : Walk) (b sc : ℕ) (q : Place) (i :
   unchanged-rows = rw (U .stays .bare, H .kind, U .stays .unclosed) refl
 
   -- what the walk of its children needs
-  pub unchanged-inner : At rows (rowsIn rows) i → GivenNames names text → Holds M v (rowsIn rows) → b ≤ 16384 → FramesBelow (v .cap) (placeOf q .ctx) → InnerPre rows names text M v n
+  pub unchanged-inner : At rows (rowsIn rows) i → GivenNames names text → Holds names text M v (rowsIn rows) → b ≤ 16384 → FramesBelow (v .cap) (placeOf q .ctx) → InnerPre rows names text M v n
   unchanged-inner g names-given holds bound low = record {
     range = record { bytes = g .bytes; few = g .few; nested = g .nested; range = subst (λ (x : ℕ). Range ws (rowsIn rows) x (n .end)) (sym (E .from)) (subst (Range ws (rowsIn rows) (i + 1)) (sym (E .end)) (inner ws (rowsIn rows) (g .nested) i (g .row))) };
     named = names-given;

@@ -18,6 +18,7 @@ use Rattle.steps.specs.Bindings.{Binding, number, closes}
 use Rattle.steps.specs.Context.{Spot, spot, start, actC}
 use Rattle.steps.specs.Fused.{passOf, topS, buildS, emitS}
 use Rattle.bindings.specs.Store.{Store, binds}
+use Rattle.bindings.specs.Filed.{Filed, behind}
 use Rattle.passes.specs.View.{opOf, Says}
 use Rattle.below.specs.Below.{children}
 use Rattle.passes.specs.declared.Pass.{Pass}
@@ -62,8 +63,9 @@ module _ (rows names text M : List ℕ) (v : Walk) where
   dressed p = dress (p .slot) (built p) none
 
 -- the array holds the bindings of a table of n rows
-pub record Holds (M : List ℕ) (v : Walk) (n : ℕ) : Type 0 where
+pub record Holds (names text M : List ℕ) (v : Walk) (n : ℕ) : Type 0 where
   pub store : Store M (v .cap) (v .count)
+  pub filed : Filed names text (behind (v .cap) M) (v .cap) (listOf M v)
   pub cap-low : v .cap ≤ 16384
   pub rows-low : n ≤ v .cap
 
@@ -71,7 +73,7 @@ pub record Holds (M : List ℕ) (v : Walk) (n : ℕ) : Type 0 where
 pub record ListPre (rows names text M : List ℕ) (v : Walk) (b : ℕ) (q q' : Spot) (i e : ℕ) : Type 0 where
   pub range : Ranged rows i e
   pub named : GivenNames names text
-  pub holds : Holds M v (rowsIn rows)
+  pub holds : Holds names text M v (rowsIn rows)
   pub bound : b ≤ 16384
   pub first : FramesBelow (v .cap) (q .ctx)
   pub later : FramesBelow (v .cap) (q' .ctx)

@@ -14,6 +14,7 @@ ghost use Rattle.spelling.specs.Spelling.{GivenNames};
 ghost use Rattle.steps.specs.Outcome.{namesOf};
 ghost use Rattle.steps.specs.Bindings.{number};
 ghost use Rattle.bindings.specs.Store.{Store, binds, captureTable};
+ghost use Rattle.bindings.specs.Filed.{Filed, behind};
 ghost use Rattle.output.specs.Output.{Done};
 ghost use Rattle.emit.specs.Idents.{thisRow};
 
@@ -30,7 +31,7 @@ pub fn captured_identifier(
     out: &mut [u8],
     at: usize,
 ) -> usize
-    requires { ⌜ (length (now made) ≡ 10 * cap) × ((cap ≤ 16384) × (frame < cap)) ⌝ }
+    requires { ⌜ (length (now made) ≡ 12 * cap) × ((cap ≤ 16384) × (frame < cap)) ⌝ }
     requires { ⌜ at + 1 < 2 ^ 32 ⌝ }
     ensures { λ r. ⌜ Done (now (out .entry)) at (node Ident 1 (getD (now (made .entry)) (captureTable cap usage frame) 0) none none) r (now (out .exit)) ⌝ }
 {
@@ -49,7 +50,7 @@ pub fn get_this_identifier(
     out: &mut [u8],
     at: usize,
 ) -> usize
-    requires { ⌜ (length (now made) ≡ 10 * cap) × ((cap ≤ 16384) × (context .«this_at» < cap)) ⌝ }
+    requires { ⌜ (length (now made) ≡ 12 * cap) × ((cap ≤ 16384) × (context .«this_at» < cap)) ⌝ }
     requires { ⌜ at + 1 < 2 ^ 32 ⌝ }
     ensures { λ r. ⌜ Done (now (out .entry)) at (thisRow (now (made .entry)) cap (context .«takes_this») (context .«this_at»)) r (now (out .exit)) ⌝ }
 {
@@ -76,6 +77,7 @@ pub fn accessor_identifier(
     requires { ⌜ GivenNames (now names) (now text) ⌝ }
     requires { ⌜ (eqb usage 3 || eqb usage 4) ≡ true ⌝ }
     requires { ⌜ at + 1 < 2 ^ 32 ⌝ }
+    requires { ⌜ Filed (now names) (now text) (behind cap (now made)) cap (binds (now made) cap (opened .count)) ⌝ }
     ensures { λ r. ⌜ Done (now (out .entry)) at (node Ident 1 (number (namesOf (now (names .entry)) (now (text .entry))) (binds (now (made .entry)) cap (opened .count)) usage (opened .row) property) none none) r (now (out .exit)) ⌝ }
 {
     let b = opened.accessor(made, cap, names, text, usage, property);

@@ -63,7 +63,7 @@ pub fn emit(
     out: &mut [u8],
 ) -> usize
     requires { ⌜ Ranged (now rows) 0 (rowsIn (now rows)) × GivenNames (now names) (now text) ⌝ }
-    requires { ⌜ Holds (now made) walk (rowsIn (now rows)) ⌝ }
+    requires { ⌜ Holds (now names) (now text) (now made) walk (rowsIn (now rows)) ⌝ }
     requires { ⌜ size (emitted (now rows) (now names) (now text) (now made) walk) < 2 ^ 32 ⌝ }
     ensures { λ r. ⌜ Done (now (out .entry)) 0 (emitted (now (rows .entry)) (now (names .entry)) (now (text .entry)) (now (made .entry)) walk) r (now (out .exit)) ⌝ }
 {

@@ -97,7 +97,7 @@ pub fn plan_at(
 ) -> Plan
     requires { ⌜ At (now rows) (rowsIn (now rows)) i ⌝ }
     requires { ⌜ GivenNames (now names) (now text) ⌝ }
-    requires { ⌜ Holds (now made) walk (rowsIn (now rows)) ⌝ }
+    requires { ⌜ Holds (now names) (now text) (now made) walk (rowsIn (now rows)) ⌝ }
     requires { ⌜ FramesBelow (walk .cap) (placeOf q .ctx) × (bind ≤ 16384) ⌝ }
     ensures { λ r. ⌜ Planned (namesOf (now (names .entry)) (now (text .entry))) (now (made .entry)) (words (now (rows .entry))) walk bind state (placeOf q) i r ⌝ }
     ensures { λ r. ⌜ RowPre (now (rows .entry)) (now (names .entry)) (now (text .entry)) (now (made .entry)) walk r ⌝ }

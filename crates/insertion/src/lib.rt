@@ -29,7 +29,7 @@ fn word(made: &[u32], j: usize) -> u32
 
 // The parameter behind `p` in its chain where `p` is taken, else `p`; 0 is none.
 fn after(made: &[u32], cap: usize, p: usize, taken: bool) -> usize
-    requires { ⌜ (length (now made) ≡ 10 * cap) × ((p < cap) × (cap ≤ 16384)) ⌝ }
+    requires { ⌜ (length (now made) ≡ 12 * cap) × ((p < cap) × (cap ≤ 16384)) ⌝ }
     ensures { λ r. ⌜ r ≡ paramAfter (now (made .entry)) cap p taken ⌝ }
 {
     if taken {
@@ -71,7 +71,7 @@ fn accessor_declarators(
 
 // Whether the frame has no capture and no accessor.
 fn is_bare(made: &[u32], cap: usize, frame: usize) -> bool
-    requires { ⌜ (length (now made) ≡ 10 * cap) × ((frame < cap) × (cap ≤ 16384)) ⌝ }
+    requires { ⌜ (length (now made) ≡ 12 * cap) × ((frame < cap) × (cap ≤ 16384)) ⌝ }
     ensures { λ r. ⌜ r ≡ bareAt (now (made .entry)) cap frame ⌝ }
 {
     let this = entry(made, 4 * cap + frame);

@@ -15,7 +15,7 @@ use Rattle.rows.specs.Sound.{GoodName}
 use Rattle.rows.proofs.Bools.{and-left, and-right}
 use Rattle.spelling.specs.Spelling.{isName, GivenNames}
 
-drop-all : (m : ℕ) (s : List ℕ) → length s ≡ m → drop m s ≡ []
+pub drop-all : (m : ℕ) (s : List ℕ) → length s ≡ m → drop m s ≡ []
 drop-all m s h = ap (λ (n : ℕ). drop n s) (sym h) ∙ drop-length s
 
 and-none : (x : Bool) → (x && false) ≡ false
@@ -71,7 +71,7 @@ none-cases names text k false y p q h = let z : k ≡ 0 = omega (arith, ltb-fals
 none-cases names text k true false p q h = past-none names text k (eqb k 0) (leb-false k (namesIn names) q)
 none-cases names text k true true p q h = absurd (let z : _≡_ {A = ℕ} 0 1 = cc in omega arith)
 
-no-bytes : (names text : List ℕ) (k : ℕ) → isName names k ≡ false → bytesOf names text k ≡ []
+pub no-bytes : (names text : List ℕ) (k : ℕ) → isName names k ≡ false → bytesOf names text k ≡ []
 no-bytes names text k h = none-cases names text k (ltb 0 k) (leb k (namesIn names)) refl refl h
 
 -- the number of a name

@@ -2,7 +2,10 @@
 use rows::words::cell;
 ghost use mathlib.Core.Path.{_≡_};
 ghost use Rattle.rows.specs.Names.{sameBytes, sameName, isArguments};
+ghost use Prim.Native.Nat.{_<_};
+ghost use Rattle.rows.specs.Names.{bytesOf};
 ghost use Rattle.spelling.specs.Spelling.{isName, GivenNames};
+ghost use Rattle.spelling.specs.Hash.{hashFrom, hashOf};
 
 fn same_bytes(a: &[u8], b: &[u8]) -> bool
     ensures { λ r. ⌜ r ≡ sameBytes (now (a .entry)) (now (b .entry)) ⌝ }
@@ -59,4 +62,37 @@ pub fn same_name(names: &[u8], text: &[u8], j: usize, k: usize) -> bool
     let from = cell(names, other);
     let to = from + cell(names, other + 1);
     same_bytes(&text[start..end], &text[from..to])
+}
+
+fn wide(x: u8) -> usize
+    ensures { λ r. ⌜ (r ≡ x) × (r < 256) ⌝ }
+{
+    x as usize
+}
+
+// A number of some bytes.
+fn hash_bytes(a: &[u8]) -> usize
+    ensures { λ r. ⌜ (r ≡ hashOf (now (a .entry))) × (r < 4294967296) ⌝ }
+{
+    let mut h: usize = 0;
+    let mut i: usize = 0;
+    while i < a.len() {
+        h = (31 * h + wide(a[i])) % 4294967296;
+        i += 1;
+    }
+    h
+}
+
+// A number of the bytes of name k.
+pub fn hash(names: &[u8], text: &[u8], k: usize) -> usize
+    requires { ⌜ GivenNames (now names) (now text) ⌝ }
+    ensures { λ r. ⌜ (r ≡ hashOf (bytesOf (now (names .entry)) (now (text .entry)) k)) × (r < 4294967296) ⌝ }
+{
+    if !is_name(names, k) {
+        return 0;
+    }
+    let pair = 2 * (k - 1);
+    let start = cell(names, pair);
+    let end = start + cell(names, pair + 1);
+    hash_bytes(&text[start..end])
 }

@@ -1,7 +1,7 @@
 -- `converter::result::small` meets its contract. Assumes nothing.
 use mathlib.Core.Path.{refl}
 use native.Mathlib.Omega.{arith}
-use Rattle.converter.proofs.Spaces.{zero-store}
+use Rattle.converter.proofs.Spaces.{zero-store, zero-filed}
 use borrow.Author.Needs.{needs}
 use Rattle.converter.proofs.result.small.Statement.{statement}
 use Rattle.converter.proofs.result.small.Tie as tie
@@ -10,7 +10,7 @@ slice-aggregate-write-result : tie.Need-slice-aggregate-write-result
 slice-aggregate-write-result c = search needs
 
 write-result-requires : tie.Need-write-result-requires
-write-result-requires c κs = record { accepted = c .before .before .before .before .before .before .before .before .pre .0; on = c .before .before .before .before .before .before .before .before .pre .1 .0; empty = zero-store 640 64 refl (omega arith); low = omega arith; fits = c .before .before .before .before .before .before .before .before .pre .1 .1 }
+write-result-requires c κs = record { accepted = c .before .before .before .before .before .before .before .before .pre .0; on = c .before .before .before .before .before .before .before .before .pre .1 .0; empty = zero-store 768 64 refl (omega arith); unfiled = zero-filed (c .before .before .before .before .before .before .before .before .args .names .now) (c .before .before .before .before .before .before .before .before .args .text .now) 768 64; low = omega arith; fits = c .before .before .before .before .before .before .before .before .pre .1 .1 }
 
 same-length : tie.Need-same-length
 same-length c = search needs

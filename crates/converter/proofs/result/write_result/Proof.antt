@@ -8,7 +8,7 @@ use Rattle.converter.proofs.result.write_result.Statement.{statement}
 use Rattle.converter.proofs.result.write_result.Tie as tie
 
 make-bindings-requires : tie.Need-make-bindings-requires
-make-bindings-requires c κs = (given-range _ _ _ _ (c .before .before .before .before .before .before .before .pre .accepted), (given-names _ _ _ _ (c .before .before .before .before .before .before .before .pre .accepted), record { store = c .before .before .before .before .before .before .before .pre .empty; cap-low = c .before .before .before .before .before .before .before .pre .low; rows-low = c .before .before .before .before .before .before .before .pre .fits; room = bindings-few _ _ _ _ _ _ (c .before .before .before .before .before .before .before .pre) }))
+make-bindings-requires c κs = (given-range _ _ _ _ (c .before .before .before .before .before .before .before .pre .accepted), (given-names _ _ _ _ (c .before .before .before .before .before .before .before .pre .accepted), (record { store = c .before .before .before .before .before .before .before .pre .empty; cap-low = c .before .before .before .before .before .before .before .pre .low; rows-low = c .before .before .before .before .before .before .before .pre .fits; room = bindings-few _ _ _ _ _ _ (c .before .before .before .before .before .before .before .pre) }, c .before .before .before .before .before .before .before .pre .unfiled)))
 
 has-room-requires : tie.Need-has-room-requires
 has-room-requires c κs = search needs
@@ -17,16 +17,16 @@ same-length : tie.Need-same-length
 same-length c = search needs
 
 returns : tie.Need-returns
-returns c = no-room-rows _ _ _ _ _ (collected (c .before .before .before .before .before .before .before .before .before .before .before .before .before .pre) (c .before .before .before .before .before .make-bindings .ensures)) _ _ (sym (c .before .has-room .ensures) ∙ not-true _ (c .if1 .taken))
+returns c = no-room-rows _ _ _ _ _ (collected (c .before .before .before .before .before .before .before .before .before .before .before .before .before .pre) (c .before .before .before .before .before .make-bindings .ensures .0) (c .before .before .before .before .before .make-bindings .ensures .1)) _ _ (sym (c .before .has-room .ensures) ∙ not-true _ (c .if1 .taken))
 
 same-length-2 : tie.Need-same-length-2
 same-length-2 c = search needs
 
 returns-2 : tie.Need-returns-2
-returns-2 c = no-room-bindings _ _ _ _ _ (collected (c .before .before .before .before .before .before .before .before .before .before .before .before .before .before .pre) (c .before .before .before .before .before .before .make-bindings .ensures)) _ _ (omega arith)
+returns-2 c = no-room-bindings _ _ _ _ _ (collected (c .before .before .before .before .before .before .before .before .before .before .before .before .before .before .pre) (c .before .before .before .before .before .before .make-bindings .ensures .0) (c .before .before .before .before .before .before .make-bindings .ensures .1)) _ _ (omega arith)
 
 emit-requires : tie.Need-emit-requires
-emit-requires c κs = walk-asks _ _ _ _ _ (collected (c .before .before .before .before .before .before .before .before .before .before .before .before .before .before .before .before .pre) (c .before .before .before .before .before .before .before .before .make-bindings .ensures))
+emit-requires c κs = walk-asks _ _ _ _ _ (collected (c .before .before .before .before .before .before .before .before .before .before .before .before .before .before .before .before .pre) (c .before .before .before .before .before .before .before .before .make-bindings .ensures .0) (c .before .before .before .before .before .before .before .before .make-bindings .ensures .1))
 
 write-records-requires : tie.Need-write-records-requires
 write-records-requires c κs = search needs
@@ -41,7 +41,7 @@ same-length-5 : tie.Need-same-length-5
 same-length-5 c = search needs
 
 returns-3 : tie.Need-returns-3
-returns-3 c = all-written _ _ _ _ _ (collected (c .before .before .before .before .before .before .before .before .before .before .before .before .before .before .before .before .before .before .before .before .before .before .before .before .pre) (c .before .before .before .before .before .before .before .before .before .before .before .before .before .before .before .before .make-bindings .ensures)) _ _ _ _ _ _ (c .before .before .before .before .before .before .before .emit .ensures) (c .before .before .write-records .ensures) (sym (c .before .before .before .before .before .before .before .before .before .before .before .before .has-room .ensures) ∙ not-false _ (c .before .before .before .before .before .before .before .before .before .before .before .if1 .left)) (omega arith)
+returns-3 c = all-written _ _ _ _ _ (collected (c .before .before .before .before .before .before .before .before .before .before .before .before .before .before .before .before .before .before .before .before .before .before .before .before .pre) (c .before .before .before .before .before .before .before .before .before .before .before .before .before .before .before .before .make-bindings .ensures .0) (c .before .before .before .before .before .before .before .before .before .before .before .before .before .before .before .before .make-bindings .ensures .1)) _ _ _ _ _ _ (c .before .before .before .before .before .before .before .emit .ensures) (c .before .before .write-records .ensures) (sym (c .before .before .before .before .before .before .before .before .before .before .before .before .has-room .ensures) ∙ not-false _ (c .before .before .before .before .before .before .before .before .before .before .before .if1 .left)) (omega arith)
 
 pub write-result-spec : {M : Type 1} → statement M
 write-result-spec =

@@ -553,7 +553,7 @@ transform-member-expression-for-super-append-requires t c κs = search needs
 
 transform-member-expression-for-super-accessor-identifier-requires :
     (t : ℕ) → transform-member-expression-for-super-lts.Need-accessor-identifier-requires (transform-member-expression-for-super-claims t) (transform-member-expression-for-super-at t) transform-member-expression-for-super.Post
-transform-member-expression-for-super-accessor-identifier-requires t c κs = ((c .before .before .before .before .before .before .before .before .before .before .pre .1 .0 .holds .store, (c .before .before .before .before .before .before .before .before .before .before .pre .1 .1 .0 .0, c .before .before .before .before .before .before .before .before .before .before .pre .1 .0 .holds .cap-low)), (c .before .before .before .before .before .before .before .before .before .before .pre .1 .0 .named, (c .before .before .before .before .before .before .before .before .before .before .pre .1 .1 .0 .1, let h0 = c .before .before .before .before .before .before .before .before .before .before .pre .1 .1 .1 in let h1 = c .before .before .before .append .ensures .next in omega arith)))
+transform-member-expression-for-super-accessor-identifier-requires t c κs = ((c .before .before .before .before .before .before .before .before .before .before .pre .1 .0 .holds .store, (c .before .before .before .before .before .before .before .before .before .before .pre .1 .1 .0 .0, c .before .before .before .before .before .before .before .before .before .before .pre .1 .0 .holds .cap-low)), (c .before .before .before .before .before .before .before .before .before .before .pre .1 .0 .named, (c .before .before .before .before .before .before .before .before .before .before .pre .1 .1 .0 .1, (let h0 = c .before .before .before .before .before .before .before .before .before .before .pre .1 .1 .1 in let h1 = c .before .before .before .append .ensures .next in omega arith, c .before .before .before .before .before .before .before .before .before .before .pre .1 .0 .holds .filed))))
 
 transform-member-expression-for-super-list-requires :
     (t : ℕ) → transform-member-expression-for-super-lts.Need-list-requires (transform-member-expression-for-super-claims t) (transform-member-expression-for-super-at t) transform-member-expression-for-super.Post

@@ -4,6 +4,8 @@ use mathlib.Core.Path.{_≡_, refl, ap, sym, _∙_}
 use mathlib.Core.List.{List}
 use lib.ListN.{length, set}
 use Rattle.bindings.proofs.Arrays.{pushed-long}
+use Rattle.bindings.specs.Filed.{behind}
+use Rattle.bindings.proofs.Filing.{captured-behind}
 use Rattle.bindings.proofs.Captures.{capture-kept, capture-room, capture-new}
 use native.Mathlib.Omega.{arith}
 use borrow.Author.Needs.{needs}
@@ -20,7 +22,7 @@ same-length : tie.Need-same-length
 same-length c = search needs
 
 returns : tie.Need-returns
-returns c = (capture-kept (c .before .before .before .before .before .args .made .now) (c .before .before .before .before .before .args .cap) (c .before .before .before .before .before .args .self .count) (c .before .before .before .before .before .args .u) (c .before .before .before .before .before .args .self .row) (c .before .before .before .before .before .pre .1) (c .before .before .before .before .before .pre .0 .0) (c .before .before .before .before .before .pre .0 .1) (c .before .before .before .capture-table .result) (c .before .before .before .capture-table .ensures .0) (λ z. c .if1 .taken (c .before .entry .ensures ∙ z)), refl)
+returns c = (capture-kept (c .before .before .before .before .before .args .made .now) (c .before .before .before .before .before .args .cap) (c .before .before .before .before .before .args .self .count) (c .before .before .before .before .before .args .u) (c .before .before .before .before .before .args .self .row) (c .before .before .before .before .before .pre .1) (c .before .before .before .before .before .pre .0 .0) (c .before .before .before .before .before .pre .0 .1) (c .before .before .before .capture-table .result) (c .before .before .before .capture-table .ensures .0) (λ z. c .if1 .taken (c .before .entry .ensures ∙ z)), (refl, refl))
 
 add-b : tie.Need-add-b
 add-b c = search needs
@@ -42,8 +44,13 @@ same-length-2 : tie.Need-same-length-2
 same-length-2 c = search needs
 
 returns-2 : tie.Need-returns-2
-returns-2 c =
-    (capture-new (c .before .before .before .before .before .before .before .before .before .before .before .before .before .args .made .now) (c .before .before .before .before .before .before .before .before .before .before .before .before .before .args .cap) (c .before .before .before .before .before .before .before .before .before .before .before .before .before .args .self .count) (c .before .before .before .before .before .before .before .before .before .before .before .before .before .args .u) (c .before .before .before .before .before .before .before .before .before .before .before .before .before .args .self .row) (c .before .before .before .before .before .before .before .before .before .before .before .before .before .pre .1) (c .before .before .before .before .before .before .before .before .before .before .before .before .before .pre .0 .0) (c .before .before .before .before .before .before .before .before .before .before .before .before .before .pre .0 .1) (c .before .before .before .before .before .before .before .before .before .before .before .capture-table .result) (c .before .before .before .before .before .before .before .before .before .before .before .capture-table .ensures .0) (sym (c .before .before .before .before .before .before .before .before .before .entry .ensures) ∙ c .before .before .before .before .before .before .before .before .if1 .left) _ (c .before .before .put .ensures ∙ ap (λ (l : List ℕ). set l (c .before .before .before .before .before .before .before .before .before .before .before .capture-table .result) (c .before .before .before .before .before .before .before .before .before .before .before .before .before .args .self .count + 1)) (c .before .before .before .before .before .before .push .ensures)), refl)
+returns-2 c = (
+  capture-new (c .before .before .before .before .before .before .before .before .before .before .before .before .before .args .made .now) (c .before .before .before .before .before .before .before .before .before .before .before .before .before .args .cap) (c .before .before .before .before .before .before .before .before .before .before .before .before .before .args .self .count) (c .before .before .before .before .before .before .before .before .before .before .before .before .before .args .u) (c .before .before .before .before .before .before .before .before .before .before .before .before .before .args .self .row) (c .before .before .before .before .before .before .before .before .before .before .before .before .before .pre .1) (c .before .before .before .before .before .before .before .before .before .before .before .before .before .pre .0 .0) (c .before .before .before .before .before .before .before .before .before .before .before .before .before .pre .0 .1) (c .before .before .before .before .before .before .before .before .before .before .before .capture-table .result) (c .before .before .before .before .before .before .before .before .before .before .before .capture-table .ensures .0) (sym (c .before .before .before .before .before .before .before .before .before .entry .ensures) ∙ c .before .before .before .before .before .before .before .before .if1 .left) _ (c .before .before .put .ensures ∙ ap (λ (l : List ℕ). set l (c .before .before .before .before .before .before .before .before .before .before .before .capture-table .result) (c .before .before .before .before .before .before .before .before .before .before .before .before .before .args .self .count + 1)) (c .before .before .before .before .before .before .push .ensures)),
+  (
+    refl,
+    ap (behind (c .before .before .before .before .before .before .before .before .before .before .before .before .before .args .cap)) (c .before .before .put .ensures ∙ ap (λ (l : List ℕ). set l (c .before .before .before .before .before .before .before .before .before .before .before .capture-table .result) (c .before .before .before .before .before .before .before .before .before .before .before .before .before .args .self .count + 1)) (c .before .before .before .before .before .before .push .ensures)) ∙ captured-behind (c .before .before .before .before .before .before .before .before .before .before .before .before .before .args .made .now) (c .before .before .before .before .before .before .before .before .before .before .before .before .before .args .cap) (c .before .before .before .before .before .before .before .before .before .before .before .before .before .args .self .count + 1) (c .before .before .before .before .before .before .before .before .before .before .before .before .before .args .u) (c .before .before .before .before .before .before .before .before .before .before .before .before .before .args .self .row) (c .before .before .before .before .before .before .before .before .before .before .before .capture-table .result) (capture-room (c .before .before .before .before .before .before .before .before .before .before .before .before .before .args .made .now) (c .before .before .before .before .before .before .before .before .before .before .before .before .before .args .cap) (c .before .before .before .before .before .before .before .before .before .before .before .before .before .args .self .count) (c .before .before .before .before .before .before .before .before .before .before .before .before .before .args .u) (c .before .before .before .before .before .before .before .before .before .before .before .before .before .args .self .row) (c .before .before .before .before .before .before .before .before .before .before .before .before .before .pre .1) (c .before .before .before .before .before .before .before .before .before .before .before .before .before .pre .0 .0) (c .before .before .before .before .before .before .before .before .before .before .before .before .before .pre .0 .1) (c .before .before .before .before .before .before .before .before .before .before .before .capture-table .result) (c .before .before .before .before .before .before .before .before .before .before .before .capture-table .ensures .0) (sym (c .before .before .before .before .before .before .before .before .before .entry .ensures) ∙ c .before .before .before .before .before .before .before .before .if1 .left)) (c .before .before .before .before .before .before .before .before .before .before .before .capture-table .ensures .1),
+  ),
+)
 
 pub capture-spec : {M : Type 1} → statement M
 capture-spec =
