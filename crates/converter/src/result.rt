@@ -8,7 +8,7 @@ use emit::Walk;
 use emit::emit;
 ghost use mathlib.Core.Path.{_≡_};
 ghost use mathlib.Core.Bool.{true, _||_};
-ghost use Prim.Native.Nat.{ℕ, _≤_};
+ghost use Prim.Native.Nat.{ℕ, _≤_, _<_};
 ghost use lib.Dec.{leb};
 ghost use Rattle.rows.specs.Words.{rowsIn};
 ghost use Rattle.rows.specs.Forest.{size};
@@ -149,6 +149,35 @@ fn large(
     )
 }
 
+// The same over an array of `size` places, or of the next size that has room. It calls itself, so that a
+// compiler leaves the three arrays in frames of their own: joined, every table would touch the largest.
+fn over(
+    size: usize,
+    switches: Switches,
+    rows: &[u8],
+    names: &[u8],
+    text: &[u8],
+    out_rows: &mut [u8],
+    out_bindings: &mut [u8],
+) -> Converted
+    requires { ⌜ Accepted 16384 128 (switchesOf switches) (now rows) (now names) (now text) ⌝ }
+    requires { ⌜ ((enabled (switchesOf switches) || asyncOnly (switchesOf switches)) ≡ true) × ((rowsIn (now rows) ≤ 16384) × (0 < size)) ⌝ }
+    ensures { λ r. ⌜ Gives (switchesOf switches) (now (rows .entry)) (now (names .entry)) (now (text .entry)) r
+        (now («out_rows» .entry)) (now («out_rows» .exit)) (now («out_bindings» .entry)) (now («out_bindings» .exit)) ⌝ }
+{
+    if size < rows.len() / 16 {
+        let more = 16 * size;
+        return over(more, switches, rows, names, text, out_rows, out_bindings);
+    }
+    if size <= 64 {
+        return small(switches, rows, names, text, out_rows, out_bindings);
+    }
+    if size <= 1024 {
+        return middle(switches, rows, names, text, out_rows, out_bindings);
+    }
+    large(switches, rows, names, text, out_rows, out_bindings)
+}
+
 // The result of a table that refusals 1 to 8 leave: the rows as they are where the mode is Disabled,
 // else by the two walks.
 pub fn result(
@@ -176,11 +205,5 @@ pub fn result(
             bindings: 0,
         };
     }
-    if n <= 64 {
-        return small(switches, rows, names, text, out_rows, out_bindings);
-    }
-    if n <= 1024 {
-        return middle(switches, rows, names, text, out_rows, out_bindings);
-    }
-    large(switches, rows, names, text, out_rows, out_bindings)
+    over(64, switches, rows, names, text, out_rows, out_bindings)
 }

@@ -24,8 +24,8 @@ same-length c = search needs
 returns-2 : tie.Need-returns-2
 returns-2 c = all-copied _ _ _ _ (c .before .before .before .before .before .before .before .before .before .before .before .before .before .pre) (flags _ _ _ _ (c .before .before .before .before .before .before .before .is-enabled .ensures) (c .before .before .before .before .before .before .is-async-only .ensures) (not-true _ (c .before .before .before .before .before .if1 .taken))) _ _ _ _ (c .before .before .copy-rows .ensures) (omega arith)
 
-small-requires : tie.Need-small-requires
-small-requires c κs = (c .before .before .before .before .before .before .before .before .before .before .before .pre, (flags _ _ _ _ (c .before .before .before .before .before .is-enabled .ensures) (c .before .before .before .before .is-async-only .ensures) (not-false _ (c .before .before .before .if1 .left)), omega arith))
+over-requires : tie.Need-over-requires
+over-requires c κs = (c .before .before .before .before .before .before .before .before .before .before .pre, ((flags _ _ _ _ (c .before .before .before .before .is-enabled .ensures) (c .before .before .before .is-async-only .ensures) (not-false _ (c .before .before .if1 .left))), (let g = given-rows _ _ _ _ (c .before .before .before .before .before .before .before .before .before .before .pre) .few in omega arith, omega arith)))
 
 same-length-2 : tie.Need-same-length-2
 same-length-2 c = search needs
@@ -35,30 +35,6 @@ same-length-3 c = search needs
 
 returns-3 : tie.Need-returns-3
 returns-3 c = search needs
-
-middle-requires : tie.Need-middle-requires
-middle-requires c κs = (c .before .before .before .before .before .before .before .before .before .before .before .before .pre, (flags _ _ _ _ (c .before .before .before .before .before .before .is-enabled .ensures) (c .before .before .before .before .before .is-async-only .ensures) (not-false _ (c .before .before .before .before .if1 .left)), omega arith))
-
-same-length-4 : tie.Need-same-length-4
-same-length-4 c = search needs
-
-same-length-5 : tie.Need-same-length-5
-same-length-5 c = search needs
-
-returns-4 : tie.Need-returns-4
-returns-4 c = search needs
-
-large-requires : tie.Need-large-requires
-large-requires c κs = (c .before .before .before .before .before .before .before .before .before .before .before .before .pre, (flags _ _ _ _ (c .before .before .before .before .before .before .is-enabled .ensures) (c .before .before .before .before .before .is-async-only .ensures) (not-false _ (c .before .before .before .before .if1 .left)), let g = given-rows _ _ _ _ (c .before .before .before .before .before .before .before .before .before .before .before .before .pre) .few in omega arith))
-
-same-length-6 : tie.Need-same-length-6
-same-length-6 c = search needs
-
-same-length-7 : tie.Need-same-length-7
-same-length-7 c = search needs
-
-returns-5 : tie.Need-returns-5
-returns-5 c = search needs
 
 pub result-spec : {M : Type 1} → statement M
 result-spec =
@@ -70,15 +46,7 @@ result-spec =
     copy-rows-requires
     same-length
     returns-2
-    small-requires
+    over-requires
     same-length-2
     same-length-3
-    returns-3
-    middle-requires
-    same-length-4
-    same-length-5
-    returns-4
-    large-requires
-    same-length-6
-    same-length-7
-    returns-5)
+    returns-3)
