@@ -69,7 +69,7 @@ fn write_result(
 }
 
 // A table of at most 64 rows,
-fn small(
+fn up_to_64(
     switches: Switches,
     rows: &[u8],
     names: &[u8],
@@ -95,8 +95,35 @@ fn small(
     )
 }
 
+// of at most 256,
+fn up_to_256(
+    switches: Switches,
+    rows: &[u8],
+    names: &[u8],
+    text: &[u8],
+    out_rows: &mut [u8],
+    out_bindings: &mut [u8],
+) -> Converted
+    requires { ⌜ Accepted 16384 128 (switchesOf switches) (now rows) (now names) (now text) ⌝ }
+    requires { ⌜ ((enabled (switchesOf switches) || asyncOnly (switchesOf switches)) ≡ true) × (rowsIn (now rows) ≤ 256) ⌝ }
+    ensures { λ r. ⌜ Gives (switchesOf switches) (now (rows .entry)) (now (names .entry)) (now (text .entry)) r
+        (now («out_rows» .entry)) (now («out_rows» .exit)) (now («out_bindings» .entry)) (now («out_bindings» .exit)) ⌝ }
+{
+    let mut made = [0u32; 3072];
+    write_result(
+        switches,
+        rows,
+        names,
+        text,
+        &mut made,
+        256,
+        out_rows,
+        out_bindings,
+    )
+}
+
 // of at most 1,024,
-fn middle(
+fn up_to_1024(
     switches: Switches,
     rows: &[u8],
     names: &[u8],
@@ -122,8 +149,35 @@ fn middle(
     )
 }
 
+// of at most 4,096,
+fn up_to_4096(
+    switches: Switches,
+    rows: &[u8],
+    names: &[u8],
+    text: &[u8],
+    out_rows: &mut [u8],
+    out_bindings: &mut [u8],
+) -> Converted
+    requires { ⌜ Accepted 16384 128 (switchesOf switches) (now rows) (now names) (now text) ⌝ }
+    requires { ⌜ ((enabled (switchesOf switches) || asyncOnly (switchesOf switches)) ≡ true) × (rowsIn (now rows) ≤ 4096) ⌝ }
+    ensures { λ r. ⌜ Gives (switchesOf switches) (now (rows .entry)) (now (names .entry)) (now (text .entry)) r
+        (now («out_rows» .entry)) (now («out_rows» .exit)) (now («out_bindings» .entry)) (now («out_bindings» .exit)) ⌝ }
+{
+    let mut made = [0u32; 49152];
+    write_result(
+        switches,
+        rows,
+        names,
+        text,
+        &mut made,
+        4096,
+        out_rows,
+        out_bindings,
+    )
+}
+
 // and of at most 16,384.
-fn large(
+fn up_to_16384(
     switches: Switches,
     rows: &[u8],
     names: &[u8],
@@ -149,8 +203,8 @@ fn large(
     )
 }
 
-// The same over an array of `size` places, or of the next size that has room. It calls itself, so that a
-// compiler leaves the three arrays in frames of their own: joined, every table would touch the largest.
+// The same over arrays of `size` places, or of the next size that has room. It calls itself, so that a
+// compiler leaves the five arrays in frames of their own: joined, every table would touch the largest.
 fn over(
     size: usize,
     switches: Switches,
@@ -166,16 +220,22 @@ fn over(
         (now («out_rows» .entry)) (now («out_rows» .exit)) (now («out_bindings» .entry)) (now («out_bindings» .exit)) ⌝ }
 {
     if size < rows.len() / 16 {
-        let more = 16 * size;
+        let more = 4 * size;
         return over(more, switches, rows, names, text, out_rows, out_bindings);
     }
     if size <= 64 {
-        return small(switches, rows, names, text, out_rows, out_bindings);
+        return up_to_64(switches, rows, names, text, out_rows, out_bindings);
+    }
+    if size <= 256 {
+        return up_to_256(switches, rows, names, text, out_rows, out_bindings);
     }
     if size <= 1024 {
-        return middle(switches, rows, names, text, out_rows, out_bindings);
+        return up_to_1024(switches, rows, names, text, out_rows, out_bindings);
     }
-    large(switches, rows, names, text, out_rows, out_bindings)
+    if size <= 4096 {
+        return up_to_4096(switches, rows, names, text, out_rows, out_bindings);
+    }
+    up_to_16384(switches, rows, names, text, out_rows, out_bindings)
 }
 
 // The result of a table that refusals 1 to 8 leave: the rows as they are where the mode is Disabled,

@@ -682,7 +682,7 @@ pub fn limits(seed: u64, rounds: usize) -> Result<Tally, Found> {
         }
     }
     // Frames, captures and accessors without number: arrows in functions, accessors in one frame.
-    for shape in 0..6 {
+    for shape in 0..8 {
         run.eight(&crowded(shape), Rooms::Some)?;
     }
     Ok(run.tally())
@@ -751,6 +751,26 @@ fn crowded(shape: usize) -> Table {
             let assign = tree(ASSIGN, &[tree(TARGET, &[tree(COMPUTED, &[leaf(SUPER), leaf(THIS)])]), leaf(THIS)]);
             let one = tree(METHOD, &[function_of(3, &[], &[statement(assign)])]);
             of_tree(&tree(PROGRAM, &[tree(CLASS, &[many(&one)])]))
+        }
+        // Properties whose bytes give one number by the library's hash, each read twice; and a few properties in each of
+        // many frames.
+        5 => {
+            let count = 512;
+            let statements: Vec<Tree> =
+                (1..=count).chain(1..=count).map(|n| statement(tree(CALL, &[spelled(n)]))).collect();
+            let mut whole = of_tree(&method_of(METHOD, 1, &[], &statements));
+            let name = |n: u32| (0..9).flat_map(move |bit| if n >> bit & 1 == 0 { *b"aa" } else { *b"bB" });
+            whole.text = (0..count).flat_map(name).collect();
+            whole.names = (0..count).map(|n| [n * 18, 18]).collect();
+            whole
+        }
+        6 => {
+            let reads: Vec<Tree> = (1..=7).chain(3..=5).map(|n| statement(spelled(n))).collect();
+            let one = tree(METHOD, &[function_of(1, &[], &reads)]);
+            let mut whole = of_tree(&tree(PROGRAM, &[tree(CLASS, &[many(&one)])]));
+            whole.text = b"abcdefg".to_vec();
+            whole.names = (0..7).map(|n| [n, 1]).collect();
+            whole
         }
         // Constructors.
         _ => {

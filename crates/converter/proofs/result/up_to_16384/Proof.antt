@@ -1,10 +1,10 @@
--- `converter::result::large` meets its contract. Assumes nothing.
+-- `converter::result::up_to_16384` meets its contract. Assumes nothing.
 use mathlib.Core.Path.{refl}
 use native.Mathlib.Omega.{arith}
 use Rattle.converter.proofs.Spaces.{zero-store, zero-filed}
 use borrow.Author.Needs.{needs}
-use Rattle.converter.proofs.result.large.Statement.{statement}
-use Rattle.converter.proofs.result.large.Tie as tie
+use Rattle.converter.proofs.result.up_to_16384.Statement.{statement}
+use Rattle.converter.proofs.result.up_to_16384.Tie as tie
 
 slice-aggregate-write-result : tie.Need-slice-aggregate-write-result
 slice-aggregate-write-result c = search needs
@@ -21,7 +21,7 @@ same-length-2 c = search needs
 returns : tie.Need-returns
 returns c = search needs
 
-pub large-spec : {M : Type 1} → statement M
-large-spec =
+pub up-to-16384-spec : {M : Type 1} → statement M
+up-to-16384-spec =
     tie.close
     (tie.spec slice-aggregate-write-result write-result-requires same-length same-length-2 returns)

@@ -1,10 +1,10 @@
--- `converter::result::small` meets its contract. Assumes nothing.
+-- `converter::result::up_to_64` meets its contract. Assumes nothing.
 use mathlib.Core.Path.{refl}
 use native.Mathlib.Omega.{arith}
 use Rattle.converter.proofs.Spaces.{zero-store, zero-filed}
 use borrow.Author.Needs.{needs}
-use Rattle.converter.proofs.result.small.Statement.{statement}
-use Rattle.converter.proofs.result.small.Tie as tie
+use Rattle.converter.proofs.result.up_to_64.Statement.{statement}
+use Rattle.converter.proofs.result.up_to_64.Tie as tie
 
 slice-aggregate-write-result : tie.Need-slice-aggregate-write-result
 slice-aggregate-write-result c = search needs
@@ -21,7 +21,7 @@ same-length-2 c = search needs
 returns : tie.Need-returns
 returns c = search needs
 
-pub small-spec : {M : Type 1} → statement M
-small-spec =
+pub up-to-64-spec : {M : Type 1} → statement M
+up-to-64-spec =
     tie.close
     (tie.spec slice-aggregate-write-result write-result-requires same-length same-length-2 returns)
