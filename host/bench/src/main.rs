@@ -254,6 +254,8 @@ fn main() {
     measure("a list of 16,000 statements", shapes::list(), way, &mut all);
     measure("a constructor of 16,000 statements", shapes::constructor(), way, &mut all);
     goals(&all);
+    println!("\nnames made to share one bucket of the library's, for which there is no goal:");
+    measure("5,459 reads of 2,048 accessors", shapes::one_bucket(), way, &mut all);
 }
 
 /// The goals, and whether they are met.

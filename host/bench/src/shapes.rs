@@ -284,6 +284,21 @@ pub fn methods() -> Table {
 pub fn accessors(count: u32) -> Table {
     let mut table = Table::new();
     let names: Vec<u32> = (0..count).map(|n| table.name(format!("property{n:04}").as_bytes())).collect();
+    reads(table, names)
+}
+
+/// The same with names that were made so that the library has all of them in one bucket: as many as fit, in as many rows as
+/// may be.
+pub fn one_bucket() -> Table {
+    let mut table = Table::new();
+    let parts = |n: u32| (0..11).flat_map(move |bit| if n >> bit & 1 == 0 { *b"aa" } else { *b"bB" });
+    let names: Vec<u32> = (0..2_048).map(|n| table.name(&parts(n).collect::<Vec<u8>>())).collect();
+    let most = (MOST_ROWS - 7) / 3;
+    reads(table, names.into_iter().cycle().take(most).collect())
+}
+
+/// An async method that reads these properties of `super`.
+fn reads(mut table: Table, names: Vec<u32>) -> Table {
     table.of(PROGRAM, |t| {
         t.row(CLASS, DECLARATION, 1, |t| {
             t.method(ASYNC, |t| {
