@@ -203,6 +203,16 @@ pub fn pass_of(
 ) -> Pass
     ensures { λ r. ⌜ Says r (passOf b sc slot kind m sup called (opOf op)) ⌝ }
 {
+    // Nothing is visited, and no list starts anew: nearly every row.
+    if (sc == COPY) & !(slot == LATE_BODY) {
+        return Pass {
+            met: false,
+            first: false,
+            scan: COPY,
+            next: COPY,
+            bind: b,
+        };
+    }
     let state = own(slot, sc);
     let met = met_of(state, kind, sup);
     let first = direct_of(state, kind, called);
