@@ -202,7 +202,7 @@ fn on_other(q: Spot, row: Words) -> Act
 }
 
 // Module 6: an Arrow. Enabled makes a Function of one that is not async.
-fn on_arrow(q: Spot, row: Words, switches: Switches) -> Act
+pub fn on_arrow(q: Spot, row: Words, switches: Switches) -> Act
     ensures { λ r. ⌜ ((N : Names) (l : Bool) (o : ℕ) (i : Rows) → Does (switchesOf switches) (contextOf (q .context)) (actOf N (switchesOf switches) l (contextOf (q .context)) (q .slot) o Kind.arrow (row .kind) (row .attr) (row .name) i) r) ⌝ }
 {
     let attr = row.attr;
@@ -224,7 +224,7 @@ fn on_arrow(q: Spot, row: Words, switches: Switches) -> Act
 }
 
 // A Function: its Params and its Body. `late`: of a constructor, a Super is left in place.
-fn on_function(q: Spot, row: Words, switches: Switches, at: usize, late: bool) -> Act
+pub fn on_function(q: Spot, row: Words, switches: Switches, at: usize, late: bool) -> Act
     ensures { λ r. ⌜ ((N : Names) (i : Rows) → Does (switchesOf switches) (contextOf (q .context)) (actOf N (switchesOf switches) late (contextOf (q .context)) (q .slot) at Kind.function (row .kind) (row .attr) (row .name) i) r) ⌝ }
 {
     let attr = row.attr;

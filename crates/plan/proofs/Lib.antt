@@ -3,3 +3,4 @@ pub mod Frames
 pub mod Staying
 pub mod Acted
 pub mod Placing
+pub mod Taking

@@ -76,3 +76,8 @@ unfolding placeOf
 inside-back p =
     let pos : 0 < 8 = omega arith in
     rw (mul-div-right (p .code / 8) pos, mul-mod-right)
+
+-- with another slot the context stays
+pub within-back : (p : Place) (sl : ℕ) → sl < 8 → placeOf (record { code = sl + 8 * (p .code / 8) }) ≡ spot (placeOf p .ctx) sl
+unfolding placeOf
+within-back p sl h = rw (lowest 8, above 8)

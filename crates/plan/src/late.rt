@@ -1,7 +1,7 @@
 // Module 8: whether a Super left in place has a constructor as its nearest Function.
-use crate::act_at;
 use crate::place::Place;
 use crate::place::placed;
+use crate::row_act;
 use acts::act::Spot;
 use acts::switches::Switches;
 use acts::switches::has_bit;
@@ -57,7 +57,7 @@ fn leaves(
         }
         let first = i + 1;
         if (kind != FUNCTION) & (first < stop) {
-            let act = act_at(rows, names, text, switches, q, i, false);
+            let act = row_act(rows, names, text, switches, q, i, false);
             if leaves(rows, names, text, switches, act.one, act.more, first, stop) {
                 return true;
             }

@@ -1,5 +1,6 @@
 // What is done with row i of a table, read from its bytes.
 pub mod late;
+mod often;
 pub mod place;
 pub mod stays;
 
@@ -8,13 +9,24 @@ use acts::act::Words;
 use acts::act::decide;
 use acts::switches::Switches;
 use below::attr_at;
+use below::deep_name;
 use below::kind_at;
 use below::look;
 use below::name_at;
+use often::arrow_act;
+use often::body_act;
+use often::function_act;
+use often::method_act;
+use often::this_act;
 use passes::Becomes;
 use place::Place;
 use place::placed;
+use rows::kinds::ARROW;
+use rows::kinds::BODY;
+use rows::kinds::FUNCTION;
 use rows::kinds::IDENT;
+use rows::kinds::METHOD;
+use rows::kinds::THIS;
 use spelling::is_arguments;
 ghost use mathlib.Core.Path.{_≡_};
 ghost use mathlib.Core.Bool.{Bool};
@@ -86,7 +98,81 @@ fn hand_on(act: Decided) -> Act
     }
 }
 
-// `late`: of a constructor, a Super is left in place.
+// The words of row i. The name further below is read for the contract alone: no code is left of it.
+fn words_at(rows: &[u8], i: usize) -> Words
+    requires { ⌜ At (now rows) (rowsIn (now rows)) i ⌝ }
+    ensures { λ r. ⌜ (r .kind ≡ kindAt (words (now (rows .entry))) i) × ((r .attr ≡ attrAt (words (now (rows .entry))) i) × (r .name ≡ nameAt (words (now (rows .entry))) i)) ⌝ }
+    ensures { λ _. ⌜ Small (words (now (rows .entry))) i ⌝ }
+{
+    let deep = deep_name(rows, i);
+    Words {
+        kind: kind_at(rows, i),
+        attr: attr_at(rows, i),
+        name: name_at(rows, i),
+    }
+}
+
+// The act of a row of any kind: what stands below it is read, and its place taken apart.
+fn any_act(
+    rows: &[u8],
+    names: &[u8],
+    text: &[u8],
+    switches: Switches,
+    q: Place,
+    row: Words,
+    i: usize,
+    late: bool,
+) -> Act
+    requires { ⌜ At (now rows) (rowsIn (now rows)) i ⌝ }
+    requires { ⌜ GivenNames (now names) (now text) ⌝ }
+    ensures { λ r. ⌜ Takes (switchesOf switches) (placeOf q .ctx)
+        (steps.act (namesOf (now (names .entry)) (now (text .entry))) (switchesOf switches) late (placeOf q .ctx) (placeOf q .slot) i
+        (row .kind) (row .attr) (row .name) (children (words (now (rows .entry))) i)) r ⌝ }
+{
+    let below = look(rows, i);
+    let arguments = named_arguments(names, text, row.kind, row.name);
+    let spot = q.spot();
+    hand_on(decide(spot, row, switches, i, late, below, arguments))
+}
+
+// What is done with row i. `late`: of a constructor, a Super is left in place.
+pub fn row_act(
+    rows: &[u8],
+    names: &[u8],
+    text: &[u8],
+    switches: Switches,
+    q: Place,
+    i: usize,
+    late: bool,
+) -> Act
+    requires { ⌜ At (now rows) (rowsIn (now rows)) i ⌝ }
+    requires { ⌜ GivenNames (now names) (now text) ⌝ }
+    ensures { λ r. ⌜ Takes (switchesOf switches) (placeOf q .ctx)
+        (steps.act (namesOf (now (names .entry)) (now (text .entry))) (switchesOf switches) late (placeOf q .ctx) (placeOf q .slot) i
+        (kindAt (words (now (rows .entry))) i) (attrAt (words (now (rows .entry))) i) (nameAt (words (now (rows .entry))) i) (children (words (now (rows .entry))) i)) r ⌝ }
+    ensures { λ _. ⌜ Small (words (now (rows .entry))) i ⌝ }
+{
+    let row = words_at(rows, i);
+    let kind = row.kind;
+    if kind == THIS {
+        return this_act(q, row);
+    }
+    if kind == METHOD {
+        return method_act(q, row);
+    }
+    if kind == BODY {
+        return body_act(q, row);
+    }
+    if kind == FUNCTION {
+        return function_act(q, row, switches, i, late);
+    }
+    if kind == ARROW {
+        return arrow_act(q, row, switches, i, late);
+    }
+    any_act(rows, names, text, switches, q, row, i, late)
+}
+
+// The same, for the walks: small, so that it is compiled into them, and they copy what becomes of the row part by part.
 pub fn act_at(
     rows: &[u8],
     names: &[u8],
@@ -103,13 +189,13 @@ pub fn act_at(
         (kindAt (words (now (rows .entry))) i) (attrAt (words (now (rows .entry))) i) (nameAt (words (now (rows .entry))) i) (children (words (now (rows .entry))) i)) r ⌝ }
     ensures { λ _. ⌜ Small (words (now (rows .entry))) i ⌝ }
 {
-    let row = Words {
-        kind: kind_at(rows, i),
-        attr: attr_at(rows, i),
-        name: name_at(rows, i),
-    };
-    let below = look(rows, i);
-    let arguments = named_arguments(names, text, row.kind, row.name);
-    let spot = q.spot();
-    hand_on(decide(spot, row, switches, i, late, below, arguments))
+    let act = row_act(rows, names, text, switches, q, i, late);
+    let op = act.op;
+    let one = act.one;
+    let more = act.more;
+    Act {
+        op: part_by_part(op),
+        one,
+        more,
+    }
 }

@@ -55,6 +55,23 @@ impl Place {
         self.code / 64 % 16384
     }
 
+    // Whether it captures `this`.
+    pub fn takes_this(self) -> bool
+        ensures { λ r. ⌜ r ≡ placeOf self .ctx .takesThis ⌝ }
+    {
+        self.code / 8 % 2 == 1
+    }
+
+    // The same context, in that slot.
+    pub fn within(self, slot: usize) -> Place
+        requires { ⌜ slot < 8 ⌝ }
+        ensures { λ r. ⌜ placeOf r ≡ spot (placeOf self .ctx) slot ⌝ }
+    {
+        Place {
+            code: slot + 8 * (self.code / 8),
+        }
+    }
+
     // The same context, with no slot: where the children of a row that stays are.
     pub fn inside(self) -> Place
         ensures { λ r. ⌜ placeOf r ≡ spot (placeOf self .ctx) free ⌝ }
