@@ -23,13 +23,18 @@ fn mark_children(s: &[u8], marks: &mut [u8], k: usize, a: usize, c0: usize, e: u
     ensures { λ r. ⌜ (r ≡ length (kids (words (now (s .entry))) e c0 e))
         × ((j : ℕ) → getD (now (marks .exit)) j 0 ≡ toldIn (says (words (now (s .entry))) k a e) 0 (kids (words (now (s .entry))) e c0 e) j (getD (now (marks .entry)) j 0)) ⌝ }
 {
+    if e <= c0 {
+        return 0;
+    }
+    let later = place_of(k, a, 1);
+    let mut place = place_of(k, a, 0);
     let mut c = c0;
     let mut pos: usize = 0;
     while c < e {
         let x = cell(s, 4 * c + 3);
-        let place = place_of(k, a, pos);
         if (c < x) & (x <= e) {
             marks[c] = place;
+            place = later;
             pos += 1;
             c = x;
         } else {

@@ -6,6 +6,7 @@ use crate::kinds::BLOCK;
 use crate::kinds::BODY;
 use crate::kinds::CALL;
 use crate::kinds::CLASS;
+use crate::kinds::COMPUTED;
 use crate::kinds::DECLARATOR;
 use crate::kinds::EXPR_STMT;
 use crate::kinds::FIELD;
@@ -28,7 +29,7 @@ ghost use mathlib.Core.Path.{_≡_};
 ghost use mathlib.Core.Bool.{true};
 ghost use Prim.Native.Nat.{ℕ, _<_};
 ghost use Rattle.rows.specs.Masks.{setOf, countByAttr, lastAttr, attrByPlace};
-ghost use Rattle.rows.specs.Grammar.{listKind, placeOf, placeInFunction, placeInClass, kindOk, declarationOk, constructorOk, attrOk, fits, countOk, madeRow, namesOne, nameOk};
+ghost use Rattle.rows.specs.Grammar.{placeOf, kindOk, declarationOk, constructorOk, attrOk, fits, countOk, madeRow, namesOne, nameOk};
 
 // The places in which a row can stand under its parent.
 const NO_PLACE: u8 = 0;
@@ -64,12 +65,6 @@ const FUNCTION_PLACE: u8 = 14;
 const CONSTRUCTOR_PLACE: u8 = 15;
 // The last attr of a kind that has any.
 const ANY_ATTR: usize = 18446744073709551615;
-
-fn list_kind(k: usize) -> bool
-    ensures { λ o. ⌜ o ≡ listKind k ⌝ }
-{
-    (k == PROGRAM) | (k == BLOCK) | (k == BODY) | (k == STATIC_BLOCK)
-}
 
 pub fn kind_ok(k: usize) -> bool
     ensures { λ o. ⌜ o ≡ kindOk k ⌝ }
@@ -215,96 +210,116 @@ fn names_one(k: usize) -> bool
 pub fn name_ok(k: usize, a: usize, name: usize, names: usize) -> bool
     ensures { λ o. ⌜ o ≡ nameOk k a name names ⌝ }
 {
-    let made = made_row(k, a);
-    let one = names_one(k);
-    made
-        | (one & (0 < name) & (name <= names))
-        | (((k == FUNCTION) | (k == CLASS)) & (name <= names))
-        | ((k == OTHER) | (k == OPAQUE))
-        | (!one & !(k == FUNCTION) & !(k == CLASS) & (name == 0))
+    if names_one(k) {
+        return (a == 1) | ((0 < name) & (name <= names));
+    }
+    if name == 0 {
+        return true;
+    }
+    if (k == FUNCTION) | (k == CLASS) {
+        return name <= names;
+    }
+    (k == OTHER) | (k == OPAQUE) | (k == ARGUMENTS)
+}
+
+// The place of the first child under a row of kind k whose attr is 0,
+fn first_in(k: usize) -> u8
+    ensures { λ r. ⌜ r ≡ placeOf k 0 0 ⌝ }
+{
+    match k {
+        PROGRAM => STATEMENT_PLACE,
+        EXPR_STMT => EXPRESSION_PLACE,
+        VAR => DECLARATOR_PLACE,
+        DECLARATOR => EXPRESSION_PLACE,
+        RETURN => EXPRESSION_PLACE,
+        BLOCK => STATEMENT_PLACE,
+        OTHER => OTHER_PLACE,
+        OPAQUE => OPAQUE_PLACE,
+        MEMBER => OBJECT_PLACE,
+        COMPUTED => OBJECT_PLACE,
+        CALL => OBJECT_PLACE,
+        ASSIGN => TARGET_PLACE,
+        ARROW => PARAMS_PLACE,
+        FUNCTION => PARAMS_PLACE,
+        PARAMS => DECLARATOR_PLACE,
+        BODY => STATEMENT_PLACE,
+        CLASS => MEMBER_PLACE,
+        METHOD => CONSTRUCTOR_PLACE,
+        FIELD => EXPRESSION_PLACE,
+        STATIC_BLOCK => STATEMENT_PLACE,
+        OBJECT => PROPERTY_PLACE,
+        PROPERTY => EXPRESSION_PLACE,
+        SEQUENCE => EXPRESSION_PLACE,
+        TARGET => ASSIGNED_PLACE,
+        _ => NO_PLACE,
+    }
+}
+
+// and of a later one.
+fn later_in(k: usize) -> u8
+    ensures { λ r. ⌜ r ≡ placeOf k 0 1 ⌝ }
+{
+    match k {
+        PROGRAM => STATEMENT_PLACE,
+        EXPR_STMT => EXPRESSION_PLACE,
+        VAR => DECLARATOR_PLACE,
+        DECLARATOR => EXPRESSION_PLACE,
+        RETURN => EXPRESSION_PLACE,
+        BLOCK => STATEMENT_PLACE,
+        OTHER => OTHER_PLACE,
+        OPAQUE => OPAQUE_PLACE,
+        MEMBER => EXPRESSION_PLACE,
+        COMPUTED => EXPRESSION_PLACE,
+        CALL => EXPRESSION_PLACE,
+        ASSIGN => EXPRESSION_PLACE,
+        ARROW => BODY_PLACE,
+        FUNCTION => BODY_PLACE,
+        PARAMS => DECLARATOR_PLACE,
+        BODY => STATEMENT_PLACE,
+        CLASS => MEMBER_PLACE,
+        METHOD => CONSTRUCTOR_PLACE,
+        FIELD => EXPRESSION_PLACE,
+        STATIC_BLOCK => STATEMENT_PLACE,
+        OBJECT => PROPERTY_PLACE,
+        PROPERTY => EXPRESSION_PLACE,
+        SEQUENCE => EXPRESSION_PLACE,
+        TARGET => ASSIGNED_PLACE,
+        _ => NO_PLACE,
+    }
+}
+
+// The place of the first child under a row of kind k and attr a,
+fn first_place(k: usize, a: usize) -> u8
+    ensures { λ r. ⌜ r ≡ placeOf k a 0 ⌝ }
+{
+    if ((k == CLASS) | (k == METHOD) | (k == PROPERTY)) & (a % 2 == 1) {
+        return EXPRESSION_PLACE;
+    }
+    if ((k == METHOD) | (k == PROPERTY)) & (a / 2 % 2 == 1) {
+        return FUNCTION_PLACE;
+    }
+    first_in(k)
+}
+
+// and of a later one.
+fn later_place(k: usize, a: usize) -> u8
+    ensures { λ r. ⌜ r ≡ placeOf k a 1 ⌝ }
+{
+    if ((k == METHOD) | (k == PROPERTY)) & (a / 2 % 2 == 1) {
+        return FUNCTION_PLACE;
+    }
+    if (k == ARROW) & (a / 2 % 2 == 1) {
+        return EXPRESSION_PLACE;
+    }
+    later_in(k)
 }
 
 // The place of the child at position pos under a row of kind k and attr a.
 pub fn place_of(k: usize, a: usize, pos: usize) -> u8
     ensures { λ r. ⌜ (r ≡ placeOf k a pos) × (r < 16) ⌝ }
 {
-    if list_kind(k) {
-        return STATEMENT_PLACE;
+    if pos == 0 {
+        return first_place(k, a);
     }
-    if (k == EXPR_STMT) | (k == DECLARATOR) | (k == RETURN) | (k == SEQUENCE) {
-        return EXPRESSION_PLACE;
-    }
-    if (k == VAR) | (k == PARAMS) {
-        return DECLARATOR_PLACE;
-    }
-    if k == OTHER {
-        return OTHER_PLACE;
-    }
-    if k == OPAQUE {
-        return OPAQUE_PLACE;
-    }
-    if (MEMBER <= k) & (k <= CALL) & (pos == 0) {
-        return OBJECT_PLACE;
-    }
-    if (MEMBER <= k) & (k <= CALL) {
-        return EXPRESSION_PLACE;
-    }
-    if (k == ASSIGN) & (pos == 0) {
-        return TARGET_PLACE;
-    }
-    place_in_function(k, a, pos)
-}
-
-fn place_in_function(k: usize, a: usize, pos: usize) -> u8
-    ensures { λ r. ⌜ (r ≡ placeInFunction k a pos) × (r < 16) ⌝ }
-{
-    if k == ASSIGN {
-        return EXPRESSION_PLACE;
-    }
-    if ((k == ARROW) | (k == FUNCTION)) & (pos == 0) {
-        return PARAMS_PLACE;
-    }
-    if (k == ARROW) & (a / 2 % 2 == 1) {
-        return EXPRESSION_PLACE;
-    }
-    if (k == ARROW) | (k == FUNCTION) {
-        return BODY_PLACE;
-    }
-    if (k == CLASS) & (a % 2 == 1) & (pos == 0) {
-        return EXPRESSION_PLACE;
-    }
-    if k == CLASS {
-        return MEMBER_PLACE;
-    }
-    if ((k == METHOD) | (k == PROPERTY)) & (a % 2 == 1) & (pos == 0) {
-        return EXPRESSION_PLACE;
-    }
-    place_in_class(k, a)
-}
-
-fn place_in_class(k: usize, a: usize) -> u8
-    ensures { λ r. ⌜ (r ≡ placeInClass k a) × (r < 16) ⌝ }
-{
-    if (k == METHOD) & (a / 2 % 2 == 1) {
-        return FUNCTION_PLACE;
-    }
-    if k == METHOD {
-        return CONSTRUCTOR_PLACE;
-    }
-    if k == FIELD {
-        return EXPRESSION_PLACE;
-    }
-    if k == OBJECT {
-        return PROPERTY_PLACE;
-    }
-    if (k == PROPERTY) & (a / 2 % 2 == 1) {
-        return FUNCTION_PLACE;
-    }
-    if k == PROPERTY {
-        return EXPRESSION_PLACE;
-    }
-    if k == TARGET {
-        return ASSIGNED_PLACE;
-    }
-    NO_PLACE
+    later_place(k, a)
 }
