@@ -77,7 +77,7 @@ pub all-append : (ps qs : List Binding) → AllParams ps → AllParams qs → Al
 all-append [] qs h k = k
 all-append (bind u x f ∷ ps) qs h k = (h .0, all-append ps qs (h .1) k)
 
-one-params : (t : Bool) (u f : ℕ) → isAccessor u ≡ false → AllParams (oneParam t u f)
+pub one-params : (t : Bool) (u f : ℕ) → isAccessor u ≡ false → AllParams (oneParam t u f)
 one-params true u f e = (e, tt)
 one-params false u f e = tt
 

@@ -7,7 +7,7 @@ use mathlib.Core.Bool.{Bool, true, false, cond, _&&_, _||_, true≢false}
 use native.Mathlib.Omega.{arith}
 use borrow.Author.Tests.{eqb-true, eqb-false, ne-eqb, eq-eqb, ltb-true, ltb-false}
 use lib.Dec.{eqb, ltb}
-use lib.ListN.{length, take, drop, getD, set, length-set, length-drop, length-append}
+use lib.ListN.{length, take, drop, getD, set, length-set, length-drop, length-append, List·getD-append}
 use lib.Seq.{getD-set-same, getD-set-other, getD-drop, drop-set-lt, drop-set-add, take-append-le, take-append-seam}
 use Rattle.steps.specs.Bindings.{Binding, Binding.bind, paramsOf, closed}
 use Rattle.rows.proofs.Bools.{and-right}
@@ -18,7 +18,7 @@ use Rattle.bindings.specs.Filed.{behind, bucketOf, inBucket, Filed}
 use Rattle.bindings.proofs.Searches.{last-other, last-new}
 use Rattle.bindings.proofs.Arrays.{binds-length, same-binds}
 use Rattle.bindings.proofs.Storing.{le-cases}
-use Rattle.bindings.proofs.Closing.{AllParams, all-append}
+use Rattle.bindings.proofs.Closing.{AllParams, all-append, one-params}
 
 -- what is written into the ten tables leaves what stands behind them
 pub pushed-behind : (M : List ℕ) (cap b u x f : ℕ) → b < cap → behind cap (pushed M cap b u x f) ≡ behind cap M
@@ -59,11 +59,6 @@ pub filed-before : (M : List ℕ) (cap h b v j : ℕ) → j < 10 * cap → getD 
 filed-before M cap h b v j l =
     getD-set-other (set M (10 * cap + (cap + b)) v) (10 * cap + h) j b 0 (λ q. omega arith) ∙ getD-set-other M (10 * cap + (cap + b)) j v 0 (λ q. omega arith)
 
-getD-left : (xs ys : List Binding) (j : ℕ) (d : Binding) → j < length xs → getD (xs ++ ys) j d ≡ getD xs j d
-getD-left [] ys j d h = absurd (omega arith)
-getD-left (x ∷ xs) ys zero d h = refl
-getD-left (x ∷ xs) ys (suc j) d h = getD-left xs ys j d (omega arith)
-
 module _ (names text : List ℕ) (cap h : ℕ) where
   abbrev q : Binding → Bool
   q = inBucket names text cap h
@@ -101,7 +96,7 @@ filed-more {names} {text} {I} {cap} {bs} ps a F = record {
     go h b p e true z = let l = ltb-true (length bs) b z in absurd (true≢false (sym e ∙ none-past names text cap h bs ps (b - 1) a (omega arith)))
     go h b p e false z =
         let l = ltb-false (length bs) b z in
-        F .befores h b p l (sym (ap (inBucket names text cap h) (getD-left bs ps (b - 1) (bind 0 0 0) (omega arith))) ∙ e)
+        F .befores h b p l (sym (ap (inBucket names text cap h) (List·getD-append bs ps (bind 0 0 0) (b - 1) (omega arith))) ∙ e)
         ∙ sym (ap (lastWhere (inBucket names text cap h) 1) (take-append-le (b - 1) bs ps (omega arith)))
 
 -- a capture is no accessor
@@ -117,17 +112,13 @@ filed-capture {names} {text} {I} {cap} {bs} u f l F = go (eqb (firstWhere (captu
     go false = F
 
 -- nor are the parameters of accessors
-one-quiet : (t : Bool) (u f : ℕ) → isAccessor u ≡ false → AllParams (oneParam t u f)
-one-quiet true u f e = (e, tt)
-one-quiet false u f e = tt
-
 params-quiet : (f : ℕ) (bs : List Binding) → AllParams (paramsOf f bs)
 unfolding paramsOf
 params-quiet f [] = tt
 params-quiet f (bind u x f' ∷ bs) = go (eqb f' f && (eqb u 3 || eqb u 4)) (params-quiet f bs)
   where
     go : (t : Bool) → AllParams (paramsOf f bs) → AllParams (cond t (oneParam (eqb x 0) 5 f ++ (oneParam (eqb u 4) 6 f ++ paramsOf f bs)) (paramsOf f bs))
-    go true a = all-append (oneParam (eqb x 0) 5 f) (oneParam (eqb u 4) 6 f ++ paramsOf f bs) (one-quiet (eqb x 0) 5 f refl) (all-append (oneParam (eqb u 4) 6 f) (paramsOf f bs) (one-quiet (eqb u 4) 6 f refl) a)
+    go true a = all-append (oneParam (eqb x 0) 5 f) (oneParam (eqb u 4) 6 f ++ paramsOf f bs) (one-params (eqb x 0) 5 f refl) (all-append (oneParam (eqb u 4) 6 f) (paramsOf f bs) (one-params (eqb u 4) 6 f refl) a)
     go false a = a
 
 pub filed-closed : {names text I : List ℕ} {cap : ℕ} {bs : List Binding} (y : Bool) (f : ℕ) → Filed names text I cap bs → Filed names text I cap (closed y f bs)
@@ -179,7 +170,7 @@ module _ {names text I : List ℕ} {cap : ℕ} {bs : List Binding} (F : Filed na
   old-before : (g j : ℕ) → 0 < j → j ≤ length bs → inBucket names text cap g (getD (bs ++ (r ∷ [])) (j - 1) (bind 0 0 0)) ≡ true → getD (set I₁ h b) (cap + j) 0 ≡ lastWhere (inBucket names text cap g) 1 (take (j - 1) (bs ++ (r ∷ [])))
   old-before g j p l e =
       getD-set-other I₁ h (cap + j) b 0 (λ z. omega arith) ∙ getD-set-other I (cap + b) (cap + j) v 0 (λ z. omega (arith, count))
-      ∙ F .befores g j p l (sym (ap (inBucket names text cap g) (getD-left bs (r ∷ []) (j - 1) (bind 0 0 0) (omega arith))) ∙ e)
+      ∙ F .befores g j p l (sym (ap (inBucket names text cap g) (List·getD-append bs (r ∷ []) (bind 0 0 0) (j - 1) (omega arith))) ∙ e)
       ∙ sym (ap (lastWhere (inBucket names text cap g) 1) (take-append-le (j - 1) bs (r ∷ []) (omega arith)))
 
   getD-last : (xs : List Binding) → getD (xs ++ (r ∷ [])) (length xs) (bind 0 0 0) ≡ r

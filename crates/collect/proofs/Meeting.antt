@@ -1,20 +1,19 @@
 -- What a row meets, by what becomes of it. Assumes nothing.
-use mathlib.Core.Path.{_≡_, refl, ap, sym, subst, _∙_}
-use mathlib.Core.Bool.{Bool, true, false, cond, not, _&&_, _||_, true≢false}
+use mathlib.Core.Path.{_≡_, ap, sym, subst, _∙_}
+use mathlib.Core.Bool.{Bool, true, false, cond, not, _&&_}
 use mathlib.Core.List.{List}
 use Prim.Native.Nat.{ℕ, _<_, _≤_}
 use native.Mathlib.Omega.{arith}
-use borrow.Author.Tests.{eqb-true}
-use lib.Dec.{eqb}
 use lib.ListN.{length}
 use Rattle.steps.specs.Naming.{Names}
 use Rattle.steps.specs.Acts.{Ctx, Op}
 use Rattle.steps.specs.Bindings.{Binding, meet, note}
 use Rattle.bindings.specs.Search.{isAccessor, noteCapture}
-use Rattle.bindings.specs.Store.{Store, binds}
+use Rattle.bindings.specs.Store.{binds}
 use Rattle.bindings.specs.Post.{Kept, Asked}
 use Rattle.bindings.specs.Filed.{Filed, behind}
 use Rattle.bindings.proofs.Filing.{filed-capture}
+use Rattle.bindings.proofs.Finding.{accessor-small}
 use Rattle.bindings.proofs.Numbered.{note-capture}
 use Rattle.passes.specs.View.{opOf}
 use Rattle.passes.specs.declared.Becomes.{Becomes}
@@ -71,13 +70,8 @@ module _ (N : Names) (M : List ℕ) (cap count : ℕ) (op : Becomes) where
     unfolding meet opOf
     call-is = sym (ap (λ (o : Becomes). meet N (opOf o) (binds M cap count)) q)
 
-    accessor-small : (y z : Bool) → eqb u 3 ≡ y → eqb u 4 ≡ z → (y || z) ≡ true → u < 4294967296
-    accessor-small true z e g h = let k = eqb-true u 3 e in omega arith
-    accessor-small false true e g h = let k = eqb-true u 4 g in omega arith
-    accessor-small false false e g h = absurd (true≢false (sym h))
-
     pub call-small : u < 4294967296
-    call-small = accessor-small (eqb u 3) (eqb u 4) refl refl (call-low .0)
+    call-small = let k = accessor-small u (call-low .0) in omega arith
 
     pub property-small : x < 4294967296
     property-small = call-low .1 .1
