@@ -38,7 +38,7 @@ use Rattle.plan.specs.Ranged.{Ranged}
 use Rattle.emit.specs.Plans.{Holds, emitted}
 use Rattle.emit.specs.declared.Walk.{Walk}
 use Rattle.refusals.specs.Given.{GivenRows}
-use Rattle.converter.specs.Ready.{Ready, Collected}
+use Rattle.converter.specs.Ready.{Ready, Collected, Unchanged}
 use Rattle.converter.specs.Converting.{outcomeOf, Answers}
 use Rattle.converter.proofs.Answering.{full-rows, full-bindings, converted-all}
 use Rattle.refusals.proofs.Giving.{sound-rows, sound-names}
@@ -78,13 +78,13 @@ module _ (w : Switches) (rows names text : List ℕ) (A : Accepted 16384 128 w r
         range = record { ordered = omega arith; within = omega arith; closed = λ j x y. g .nested .inside j y };
       }
 
-  -- Disabled
-  module _ (off : (enabled w || asyncOnly w) ≡ false) (outRows outBindings : List ℕ) where
+  -- a table that is its own result
+  module _ (same : Unchanged w rows names text) (outRows outBindings : List ℕ) where
     copied-rows : steps (namesOf names text) w (table rows) .rows ≡ table rows
-    copied-rows = ap (λ (r : Result). r .rows) (steps-off (namesOf names text) w (table rows) off)
+    copied-rows = ap (λ (r : Result). r .rows) same
 
     no-bindings : steps (namesOf names text) w (table rows) .bindings ≡ []
-    no-bindings = ap (λ (r : Result). r .bindings) (steps-off (namesOf names text) w (table rows) off)
+    no-bindings = ap (λ (r : Result). r .bindings) same
 
     result-size : size (steps (namesOf names text) w (table rows) .rows) ≡ rowsIn rows
     result-size = ap size copied-rows ∙ table-size 16384 128 w rows names text A

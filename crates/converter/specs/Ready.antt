@@ -1,11 +1,15 @@
 -- What the functions below `convert` ask and promise. Assumes nothing.
 use mathlib.Core.Path.{_≡_}
-use mathlib.Core.Bool.{true, _||_}
+use mathlib.Core.Bool.{Bool, true, _&&_, _||_}
 use mathlib.Core.List.{List, []}
 use Prim.Native.Nat.{ℕ, _≤_}
+use lib.Dec.{eqb}
+use Rattle.rows.specs.Kinds.{Arrow}
 use Rattle.rows.specs.Words.{rowsIn}
 use Rattle.rows.specs.Forest.{table}
 use Rattle.steps.specs.Mode.{Switches, enabled, asyncOnly}
+use Rattle.steps.specs.ArrowToFunction.{toFunction?}
+use Rattle.steps.specs.Steps.{steps}
 use Rattle.steps.specs.Context.{madeC}
 use Rattle.steps.specs.Outcome.{namesOf}
 use Rattle.steps.specs.Accepted.{Accepted}
@@ -17,6 +21,14 @@ use Rattle.emit.specs.declared.Walk.{Walk}
 use Rattle.converter.specs.Answer.{numberOf, placeOf, rowsOf, bindingsOf}
 use Rattle.converter.specs.Converting.{outcomeOf, Answers}
 use Rattle.converter.specs.declared.answer.Converted.{Converted}
+
+-- an Arrow that module 6 makes a Function
+abbrev pub becomesFunction : Switches → (k a : ℕ) → Bool
+becomesFunction w k a = eqb k Arrow && toFunction? w a
+
+-- the result is the table
+abbrev pub Unchanged : Switches → (rows names text : List ℕ) → Type 0
+Unchanged w rows names text = steps (namesOf names text) w (table rows) ≡ record { rows = table rows; bindings = [] }
 
 -- what the two walks are made over: a table that refusals 1 to 8 leave, in a mode that changes rows, and an empty array with room for its bindings
 pub record Ready (w : Switches) (rows names text made : List ℕ) (cap : ℕ) : Type 0 where

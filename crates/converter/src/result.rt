@@ -3,20 +3,24 @@ use crate::answer::Converted;
 use crate::copy::copy_rows;
 use crate::copy::write_records;
 use acts::switches::Switches;
+use acts::switches::has_bit;
 use collect::make_bindings;
 use emit::Walk;
 use emit::emit;
+use rows::kinds::ARROW;
+use rows::words::cell;
 ghost use mathlib.Core.Path.{_≡_};
 ghost use mathlib.Core.Bool.{true, _||_};
 ghost use Prim.Native.Nat.{ℕ, _≤_, _<_};
 ghost use lib.Dec.{leb};
 ghost use Rattle.rows.specs.Words.{rowsIn};
-ghost use Rattle.rows.specs.Forest.{size};
+ghost use Rattle.rows.specs.Forest.{size, NoRow, table};
 ghost use Rattle.steps.specs.Mode.{enabled, asyncOnly};
 ghost use Rattle.steps.specs.Accepted.{Accepted};
 ghost use Rattle.acts.specs.View.{switchesOf};
 ghost use Rattle.emit.specs.Plans.{emitted};
-ghost use Rattle.converter.specs.Ready.{Ready, Collected, Gives};
+ghost use Rattle.refusals.specs.Given.{GivenRows};
+ghost use Rattle.converter.specs.Ready.{Ready, Collected, Gives, Unchanged, becomesFunction};
 
 // Whether the rows of the result fit into room for that many. A result has at most 8 rows for each row
 // and 11 for each binding, so that with much room nothing is counted.
@@ -33,7 +37,52 @@ fn has_room(rows: &[u8], names: &[u8], text: &[u8], made: &[u32], walk: Walk, ro
     total <= room
 }
 
-// The bindings, and where there is room for them and for the rows, the rows and the records.
+// Whether no Arrow becomes a Function: "Enabled, not async".
+fn keeps_arrows(switches: Switches, rows: &[u8]) -> bool
+    requires { ⌜ GivenRows (now rows) (rowsIn (now rows)) ⌝ }
+    ensures { λ r. ⌜ (r ≡ true → NoRow (becomesFunction (switchesOf switches)) (table (now (rows .entry)))) ⌝ }
+{
+    let enabled = switches.is_enabled();
+    let n = rows.len() / 16;
+    let mut i: usize = 0;
+    while i < n {
+        let kind = cell(rows, 4 * i);
+        let attr = cell(rows, 4 * i + 1);
+        let is_async = has_bit(1, attr);
+        if (kind == ARROW) & (enabled & !is_async) {
+            return false;
+        }
+        i += 1;
+    }
+    true
+}
+
+// The rows as they are, where there is room for them.
+fn unchanged(
+    switches: Switches,
+    rows: &[u8],
+    names: &[u8],
+    text: &[u8],
+    out_rows: &mut [u8],
+    out_bindings: &mut [u8],
+) -> Converted
+    requires { ⌜ Accepted 16384 128 (switchesOf switches) (now rows) (now names) (now text) ⌝ }
+    requires { ⌜ Unchanged (switchesOf switches) (now rows) (now names) (now text) ⌝ }
+    ensures { λ r. ⌜ Gives (switchesOf switches) (now (rows .entry)) (now (names .entry)) (now (text .entry)) r
+        (now («out_rows» .entry)) (now («out_rows» .exit)) (now («out_bindings» .entry)) (now («out_bindings» .exit)) ⌝ }
+{
+    if out_rows.len() / 16 < rows.len() / 16 {
+        return Converted::NoRoom;
+    }
+    let copied = copy_rows(rows, out_rows);
+    Converted::Done {
+        rows: copied,
+        bindings: 0,
+    }
+}
+
+// The bindings, and where there is room for them and for the rows, the rows and the records. Where no rule
+// said yes anywhere, the rows are the table's and need no walk.
 fn write_result(
     switches: Switches,
     rows: &[u8],
@@ -49,6 +98,11 @@ fn write_result(
         (now («out_rows» .entry)) (now («out_rows» .exit)) (now («out_bindings» .entry)) (now («out_bindings» .exit)) ⌝ }
 {
     let count = make_bindings(rows, names, text, switches, made, cap);
+    if count == 0 {
+        if keeps_arrows(switches, rows) {
+            return unchanged(switches, rows, names, text, out_rows, out_bindings);
+        }
+    }
     let walk = Walk {
         switches,
         cap,
@@ -252,18 +306,10 @@ pub fn result(
     ensures { λ r. ⌜ Gives (switchesOf switches) (now (rows .entry)) (now (names .entry)) (now (text .entry)) r
         (now («out_rows» .entry)) (now («out_rows» .exit)) (now («out_bindings» .entry)) (now («out_bindings» .exit)) ⌝ }
 {
-    let n = rows.len() / 16;
     let enabled = switches.is_enabled();
     let only = switches.is_async_only();
     if !(enabled | only) {
-        if out_rows.len() / 16 < n {
-            return Converted::NoRoom;
-        }
-        let copied = copy_rows(rows, out_rows);
-        return Converted::Done {
-            rows: copied,
-            bindings: 0,
-        };
+        return unchanged(switches, rows, names, text, out_rows, out_bindings);
     }
     over(64, switches, rows, names, text, out_rows, out_bindings)
 }
