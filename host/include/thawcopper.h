@@ -7,7 +7,7 @@
  * refusal leaves what was lent as it was. A length is in bytes; a pointer whose length is 0 is not read, but must not
  * be null. The memory that is written must not overlap any other that is handed over.
  *
- * thawcopper_convert needs up to 884 KiB of stack, 648 of them for any table: give its thread 1 MiB or more.
+ * thawcopper_convert needs up to 896 KiB of stack, by the size of the table: give its thread 1 MiB or more.
  */
 #ifndef THAWCOPPER_H
 #define THAWCOPPER_H

@@ -22,7 +22,7 @@
 //! The package has no dependencies. It links `libthawcopper.a`, which `rt staticlib thawcopper` writes; the build script
 //! looks for it in `../target/staticlib`, or in the directory that `THAWCOPPER_LIB_DIR` names. The archive is for x86-64.
 //!
-//! A call takes up to 884 KiB of stack, which a thread of Rust's default size has.
+//! A call takes up to 896 KiB of stack, which a thread of Rust's default size has.
 
 mod refusal;
 mod table;

@@ -201,6 +201,10 @@ fn profile(shape: &str, mode: &str) {
         "accessors" => shapes::accessors(2_000),
         "constructor" => shapes::constructor(),
         "list" => shapes::list(),
+        "methods" => shapes::methods(),
+        "functions" => shapes::functions(),
+        "deep" => shapes::deep(),
+        "small" => shapes::ordinary(16),
         _ => panic!("no shape is called {}", shape),
     };
     let switches = MODES.iter().find(|(name, _)| *name == mode).expect("Disabled, AsyncOnly or Enabled").1;
@@ -214,7 +218,8 @@ fn profile(shape: &str, mode: &str) {
     };
     let start = now();
     let mut calls = 0u64;
-    while now() - start < 3_000_000_000 {
+    let most: u64 = std::env::var("CALLS").map_or(u64::MAX, |n| n.parse().unwrap());
+    while calls < most && now() - start < 3_000_000_000 {
         lent.library(switches);
         calls += 1;
     }
