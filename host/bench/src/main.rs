@@ -7,8 +7,9 @@
 //!   bash tools/host.sh bench ample      as much room for rows as `thawcopper::convert` lends, in which the library need not
 //!                                       count them first
 //!
-//!   bash tools/host.sh bench profile SHAPE MODE    the library alone for 3 seconds, for a profiler; SHAPE is `script`,
-//!                                       `accessors`, `constructor` or `list`, MODE a mode
+//!   bash tools/host.sh bench profile SHAPE MODE    the library alone for 3 seconds, or for as many calls as the variable CALLS
+//!                                       says, for a profiler; SHAPE is `script`, `small`, `deep`, `functions`, `methods`,
+//!                                       `accessors`, `list` or `constructor`, MODE a mode
 //!
 //! Same tables, same process, release build. The three take turns: a round is a run of each, a run as many calls as take
 //! about 2 milliseconds, and there are 11 rounds. Figures are nanoseconds a row of the table, the median of the rounds.
