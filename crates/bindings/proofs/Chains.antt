@@ -15,7 +15,7 @@ use Rattle.bindings.specs.Store.{bindAt, bindsFrom, binds, firstTable, l
 use Rattle.bindings.specs.Post.{Kept}
 use Rattle.bindings.proofs.Searches.{first-other, last-other, first-new, first-stays, last-new, none-alike, last-in, last-holds, chain-end}
 use Rattle.bindings.proofs.Arrays.{binds-length, binds-at, same-binds, pushed-long, pushed-later, pushed-binds}
-use Rattle.bindings.proofs.Storing.{bare-snoc, drop-none, first-kept, last-kept, first-set, last-set, behind, old-bind, new-bind, le-cases}
+use Rattle.bindings.proofs.Storing.{first-range, last-range, bare-snoc, drop-none, first-kept, last-kept, first-set, last-set, behind, old-bind, new-bind, le-cases}
 
 -- an accessor is no parameter, and each binding has one frame
 uses-apart : (u : ℕ) → isParam u ≡ true → isAccessor u ≡ true → ⊥
@@ -66,18 +66,10 @@ module _ (M : List ℕ) (cap count u x f : ℕ) (S : Store M cap count) (low : c
   la = lastTable param cap f
 
   fi-in : (6 * cap ≤ fi) × (fi < 10 * cap)
-  fi-in = go param
-    where
-      go : (t : Bool) → (6 * cap ≤ firstTable t cap f) × (firstTable t cap f < 10 * cap)
-      go true = (omega arith, omega arith)
-      go false = (omega arith, omega arith)
+  fi-in = first-range param cap f fl
 
   la-in : (7 * cap ≤ la) × (la < 10 * cap)
-  la-in = go param
-    where
-      go : (t : Bool) → (7 * cap ≤ lastTable t cap f) × (lastTable t cap f < 10 * cap)
-      go true = (omega arith, omega arith)
-      go false = (omega arith, omega arith)
+  la-in = last-range param cap f fl
 
   p-long : length P ≡ 12 * cap
   p-long = pushed-long M cap (count + 1) u x f (S .long) low
@@ -196,14 +188,6 @@ module _ (M : List ℕ) (cap count u x f : ℕ) (S : Store M cap count) (low : c
   first-last false true g h a b e = omega arith
   first-last false false g h a b e = omega arith
 
-  first-range : (s : Bool) (g : ℕ) → g < cap → (6 * cap ≤ firstTable s cap g) × (firstTable s cap g < 10 * cap)
-  first-range true g h = (omega arith, omega arith)
-  first-range false g h = (omega arith, omega arith)
-
-  last-range : (s : Bool) (g : ℕ) → g < cap → (7 * cap ≤ lastTable s cap g) × (lastTable s cap g < 10 * cap)
-  last-range true g h = (omega arith, omega arith)
-  last-range false g h = (omega arith, omega arith)
-
   other-class : (s : Bool) (g : ℕ) → (s ≡ param → g ≡ f → ⊥) → ofClass s g r ≡ false
   other-class s g n = go (ofClass s g r) refl
     where
@@ -217,7 +201,7 @@ module _ (M : List ℕ) (cap count u x f : ℕ) (S : Store M cap count) (low : c
     where
       go : (t : Bool) → eqb L 0 ≡ t → firstTable s cap g ≡ cond t fi (3 * cap + L) → ⊥
       go true q e = first-apart s g h n e
-      go false q e = let k = L-in q in let m = first-range s g h in omega arith
+      go false q e = let k = L-in q in let m = first-range s cap g h in omega arith
 
   not-I-last : (s : Bool) (g : ℕ) → g < cap → lastTable s cap g ≡ I → ⊥
   unfolding I
@@ -225,7 +209,7 @@ module _ (M : List ℕ) (cap count u x f : ℕ) (S : Store M cap count) (low : c
     where
       go : (t : Bool) → eqb L 0 ≡ t → lastTable s cap g ≡ cond t fi (3 * cap + L) → ⊥
       go true q e = first-last param s f g fl h (sym e)
-      go false q e = let k = L-in q in let m = last-range s g h in omega arith
+      go false q e = let k = L-in q in let m = last-range s cap g h in omega arith
 
   -- is it this chain
   same-chain : (s : Bool) (g : ℕ) → ((s ≡ param) × (g ≡ f)) ⊎ (s ≡ param → g ≡ f → ⊥)
@@ -262,13 +246,13 @@ module _ (M : List ℕ) (cap count u x f : ℕ) (S : Store M cap count) (low : c
   firsts′ : (s : Bool) (g : ℕ) → g < cap → getD M′ (firstTable s cap g) 0 ≡ firstWhere (ofClass s g) 1 (binds M′ cap (count + 1))
   firsts′ s g h = ⊎-elim
       (λ q. subst (λ (w : ℕ). getD M′ (firstTable s cap w) 0 ≡ firstWhere (ofClass s w) 1 (binds M′ cap (count + 1))) (sym (q .1)) (subst (λ (t : Bool). getD M′ (firstTable t cap f) 0 ≡ firstWhere (ofClass t f) 1 (binds M′ cap (count + 1))) (sym (q .0)) mine-first))
-      (λ n. let m = first-range s g h in first-kept M M′ cap count u x f S low now (ofClass s g) (firstTable s cap g) (later (firstTable s cap g) (omega arith) (not-I-first s g h n) (first-last s param g f h fl)) (S .firsts s g h) (other-class s g n))
+      (λ n. let m = first-range s cap g h in first-kept M M′ cap count u x f S low now (ofClass s g) (firstTable s cap g) (later (firstTable s cap g) (omega arith) (not-I-first s g h n) (first-last s param g f h fl)) (S .firsts s g h) (other-class s g n))
       (same-chain s g)
 
   lasts′ : (s : Bool) (g : ℕ) → g < cap → getD M′ (lastTable s cap g) 0 ≡ lastWhere (ofClass s g) 1 (binds M′ cap (count + 1))
   lasts′ s g h = ⊎-elim
       (λ q. subst (λ (w : ℕ). getD M′ (lastTable s cap w) 0 ≡ lastWhere (ofClass s w) 1 (binds M′ cap (count + 1))) (sym (q .1)) (subst (λ (t : Bool). getD M′ (lastTable t cap f) 0 ≡ lastWhere (ofClass t f) 1 (binds M′ cap (count + 1))) (sym (q .0)) (last-set M M′ cap count u x f S low now (ofClass param f) la at-last mine)))
-      (λ n. let m = last-range s g h in last-kept M M′ cap count u x f S low now (ofClass s g) (lastTable s cap g) (later (lastTable s cap g) (omega arith) (not-I-last s g h) (last-apart s g h n)) (S .lasts s g h) (other-class s g n))
+      (λ n. let m = last-range s cap g h in last-kept M M′ cap count u x f S low now (ofClass s g) (lastTable s cap g) (later (lastTable s cap g) (omega arith) (not-I-last s g h) (last-apart s g h n)) (S .lasts s g h) (other-class s g n))
       (same-chain s g)
 
   -- a next that is not touched

@@ -17,7 +17,7 @@ use Rattle.bindings.specs.Post.{Kept}
 use Rattle.bindings.specs.Filed.{behind, bucketOf, inBucket, Filed}
 use Rattle.bindings.proofs.Searches.{last-other, last-new}
 use Rattle.bindings.proofs.Arrays.{binds-length, same-binds}
-use Rattle.bindings.proofs.Storing.{le-cases}
+use Rattle.bindings.proofs.Storing.{first-range, last-range, at-end, le-cases}
 use Rattle.bindings.proofs.Closing.{AllParams, all-append, one-params}
 
 -- what is written into the ten tables leaves what stands behind them
@@ -29,25 +29,17 @@ pushed-behind M cap b u x f h =
 pub captured-behind : (M : List ℕ) (cap b u f t : ℕ) → b < cap → t < 10 * cap → behind cap (set (pushed M cap b u 0 f) t b) ≡ behind cap M
 captured-behind M cap b u f t h k = drop-set-lt (10 * cap) (pushed M cap b u 0 f) t b k ∙ pushed-behind M cap b u 0 f h
 
-first-in : (param : Bool) (cap f : ℕ) → f < cap → firstTable param cap f < 10 * cap
-first-in true cap f h = omega arith
-first-in false cap f h = omega arith
-
-last-in-ten : (param : Bool) (cap f : ℕ) → f < cap → lastTable param cap f < 10 * cap
-last-in-ten true cap f h = omega arith
-last-in-ten false cap f h = omega arith
-
 link-in : (param : Bool) (cap f l : ℕ) → f < cap → l < cap → linkTable param cap f l < 10 * cap
 link-in param cap f l h k = go (eqb l 0)
   where
     go : (t : Bool) → cond t (firstTable param cap f) (3 * cap + l) < 10 * cap
-    go true = first-in param cap f h
+    go true = first-range param cap f h .1
     go false = omega arith
 
 pub chained-behind : (M : List ℕ) (cap : ℕ) (param : Bool) (f b : ℕ) → f < cap → getD M (lastTable param cap f) 0 < cap → behind cap (chained M cap param f b) ≡ behind cap M
 chained-behind M cap param f b h k =
     let l : ℕ = getD M (lastTable param cap f) 0 in
-    drop-set-lt (10 * cap) (set M (linkTable param cap f l) b) (lastTable param cap f) b (last-in-ten param cap f h)
+    drop-set-lt (10 * cap) (set M (linkTable param cap f l) b) (lastTable param cap f) b (last-range param cap f h .1)
     ∙ drop-set-lt (10 * cap) M (linkTable param cap f l) b (link-in param cap f l h k)
 
 -- an accessor put into its bucket: the ten tables are as they were, and behind them two words are stored
@@ -173,15 +165,11 @@ module _ {names text I : List ℕ} {cap : ℕ} {bs : List Binding} (F : Filed na
       ∙ F .befores g j p l (sym (ap (inBucket names text cap g) (List·getD-append bs (r ∷ []) (bind 0 0 0) (j - 1) (omega arith))) ∙ e)
       ∙ sym (ap (lastWhere (inBucket names text cap g) 1) (take-append-le (j - 1) bs (r ∷ []) (omega arith)))
 
-  getD-last : (xs : List Binding) → getD (xs ++ (r ∷ [])) (length xs) (bind 0 0 0) ≡ r
-  getD-last [] = refl
-  getD-last (y ∷ ys) = getD-last ys
-
   new-before : (g j : ℕ) → j ≡ length bs + 1 → inBucket names text cap g (getD (bs ++ (r ∷ [])) (j - 1) (bind 0 0 0)) ≡ true → getD (set I₁ h b) (cap + j) 0 ≡ lastWhere (inBucket names text cap g) 1 (take (j - 1) (bs ++ (r ∷ [])))
   new-before g j q e =
       let s : j - 1 ≡ length bs = omega arith in
       let y : j ≡ b = q ∙ count in
-      let w : h ≡ g = its g (sym (ap (inBucket names text cap g) (ap (λ (m : ℕ). getD (bs ++ (r ∷ [])) m (bind 0 0 0)) s ∙ getD-last bs)) ∙ e) in
+      let w : h ≡ g = its g (sym (ap (inBucket names text cap g) (ap (λ (m : ℕ). getD (bs ++ (r ∷ [])) m (bind 0 0 0)) s ∙ at-end bs r (length bs) refl)) ∙ e) in
       ap (λ (m : ℕ). getD (set I₁ h b) (cap + m) 0) y
       ∙ getD-set-other I₁ h (cap + b) b 0 (λ z. omega arith) ∙ getD-set-same I (cap + b) v 0 (omega (arith, long))
       ∙ F .lasts h hl
@@ -214,8 +202,8 @@ module _ (M M′ : List ℕ) (cap count : ℕ) (S : Store M cap count) (long : l
     bare = subst Bare (sym binds-agrees) (S .bare);
     this = λ f h. same (4 * cap + f) (omega arith) ∙ S .this f h ∙ sym (ap (firstWhere (captureOf 1 f) 1) binds-agrees);
     arguments = λ f h. same (5 * cap + f) (omega arith) ∙ S .arguments f h ∙ sym (ap (firstWhere (captureOf 2 f) 1) binds-agrees);
-    firsts = λ param f h. same (firstTable param cap f) (first-in param cap f h) ∙ S .firsts param f h ∙ sym (ap (firstWhere (ofClass param f) 1) binds-agrees);
-    lasts = λ param f h. same (lastTable param cap f) (last-in-ten param cap f h) ∙ S .lasts param f h ∙ sym (ap (lastWhere (ofClass param f) 1) binds-agrees);
+    firsts = λ param f h. same (firstTable param cap f) (first-range param cap f h .1) ∙ S .firsts param f h ∙ sym (ap (firstWhere (ofClass param f) 1) binds-agrees);
+    lasts = λ param f h. same (lastTable param cap f) (last-range param cap f h .1) ∙ S .lasts param f h ∙ sym (ap (lastWhere (ofClass param f) 1) binds-agrees);
     nexts = λ param f b o l e.
         let k = S .room in
         same (3 * cap + b) (omega arith) ∙ S .nexts param f b o l (sym (ap (ofClass param f) (bind-agrees b (omega arith))) ∙ e)

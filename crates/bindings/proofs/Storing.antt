@@ -8,13 +8,22 @@ use native.Mathlib.Omega.{arith}
 use native.Mathlib.Nat.{add-zero}
 use borrow.Author.Tests.{eqb-true, eqb-false, ne-eqb, eq-eqb, ltb-true, ltb-false}
 use lib.Dec.{eqb, ltb}
-use lib.ListN.{length, drop, getD, set, length-set}
+use lib.ListN.{length, drop, getD, set, length-set, List·getD-append}
 use lib.Seq.{getD-set-same, getD-set-other, drop-append-le, drop-length}
 use Rattle.steps.specs.Bindings.{Binding, Binding.bind}
 use Rattle.bindings.specs.Search.{firstWhere, lastWhere, captureOf, isAccessor, isParam, ofClass}
 use Rattle.bindings.specs.Store.{bindAt, bindsFrom, binds, firstTable, lastTable, Bare, Store, pushed, captured, chained}
 use Rattle.bindings.proofs.Searches.{first-other, last-other, first-new, first-stays, last-new, none-alike, last-in, chain-end}
 use Rattle.bindings.proofs.Arrays.{binds-length, binds-at, same-binds, pushed-long, pushed-later, pushed-binds, pushed-before, pushed-here}
+
+-- where the tables of firsts and of lasts stand in the array
+pub first-range : (s : Bool) (cap g : ℕ) → g < cap → (6 * cap ≤ firstTable s cap g) × (firstTable s cap g < 10 * cap)
+first-range true cap g h = (omega arith, omega arith)
+first-range false cap g h = (omega arith, omega arith)
+
+pub last-range : (s : Bool) (cap g : ℕ) → g < cap → (7 * cap ≤ lastTable s cap g) × (lastTable s cap g < 10 * cap)
+last-range true cap g h = (omega arith, omega arith)
+last-range false cap g h = (omega arith, omega arith)
 
 pub bare-snoc : (bs : List Binding) (u x f : ℕ) → Bare bs → (u ≤ 2 → x ≡ 0) → Bare (bs ++ (bind u x f ∷ []))
 bare-snoc [] u x f h k = (k, tt)
@@ -35,6 +44,13 @@ drop-none M cap count r =
     go [] (suc n) q = absurd (omega arith)
     go (b ∷ bs) zero q = absurd (omega arith)
     go (b ∷ bs) (suc n) q = let e : suc n + 1 ≡ suc (n + 1) = omega arith in ap (λ (k : ℕ). drop k ((b ∷ bs) ++ (r ∷ []))) e ∙ go bs n (omega arith)
+
+-- the one at the end
+pub at-end : (xs : List Binding) (r : Binding) (n : ℕ) → length xs ≡ n → getD (xs ++ (r ∷ [])) n (bind 0 0 0) ≡ r
+at-end [] r zero h = refl
+at-end [] r (suc n) h = absurd (omega arith)
+at-end (y ∷ ys) r zero h = absurd (omega arith)
+at-end (y ∷ ys) r (suc n) h = at-end ys r n (omega arith)
 
 -- which tests hold of a capture, and of a chained binding
 pub capture-class : (param : Bool) (g u x f : ℕ) → isAccessor u ≡ false → isParam u ≡ false → ofClass param g (bind u x f) ≡ false
@@ -90,26 +106,15 @@ module _ (M M′ : List ℕ) (cap count u x f : ℕ) (S : Store M cap count) (lo
       let q : 1 + (b - 1) ≡ b = omega arith in
       sym (binds-at M′ cap 1 (count + 1) (b - 1) d (omega arith) ∙ ap (bindAt M′ cap) q)
       ∙ ap (λ (k : List Binding). getD k (b - 1) d) now
-      ∙ getD-left bs (b - 1) d (omega (arith, len))
+      ∙ List·getD-append bs (r ∷ []) d (b - 1) (omega (arith, len))
       ∙ binds-at M cap 1 count (b - 1) d (omega arith) ∙ ap (bindAt M cap) q
-    where
-      getD-left : (xs : List Binding) (j : ℕ) (d : Binding) → j < length xs → getD (xs ++ (r ∷ [])) j d ≡ getD xs j d
-      getD-left [] j d h = absurd (omega arith)
-      getD-left (y ∷ ys) zero d h = refl
-      getD-left (y ∷ ys) (suc j) d h = getD-left ys j d (omega arith)
 
   pub new-bind : bindAt M′ cap (count + 1) ≡ r
   new-bind =
       let d : Binding = bind 0 0 0 in
       let q : 1 + count ≡ count + 1 = omega arith in
       sym (binds-at M′ cap 1 (count + 1) count d (omega arith) ∙ ap (bindAt M′ cap) q)
-      ∙ ap (λ (k : List Binding). getD k count d) now ∙ go bs count len
-    where
-      go : (xs : List Binding) (n : ℕ) → length xs ≡ n → getD (xs ++ (r ∷ [])) n (bind 0 0 0) ≡ r
-      go [] zero h = refl
-      go [] (suc n) h = absurd (omega arith)
-      go (y ∷ ys) zero h = absurd (omega arith)
-      go (y ∷ ys) (suc n) h = go ys n (omega arith)
+      ∙ ap (λ (k : List Binding). getD k count d) now ∙ at-end bs r count len
 
 pub le-cases : (b n : ℕ) → b ≤ n + 1 → (b ≤ n) ⊎ (b ≡ n + 1)
 le-cases b n h = go (ltb n b) refl

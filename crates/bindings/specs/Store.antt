@@ -1,5 +1,5 @@
 -- The bindings in the first ten tables of a local array, of cap entries each (behind them two more, Filed.antt): the record's three words and the next of its chain, by binding number; the capture of `this` and of `arguments`,
--- the first and last accessor and the first and last parameter, by frame. So that no number is searched for outside its frame. Assumes nothing.
+-- the first and last accessor and the first and last parameter, by frame. So that no number is searched for in the whole list. Assumes nothing.
 use mathlib.Core.Path.{_≡_}
 use mathlib.Core.List.{List, [], _∷_}
 use Prim.Native.Nat.{ℕ, zero, suc, _+_, _*_, _≤_, _<_}

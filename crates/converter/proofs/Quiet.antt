@@ -173,13 +173,13 @@ module _ (N : Names) (w : Switches) where
       steps-same N w t ∙ rw (on, h, e)
 
 -- The loop over the rows, where e says whether the mode is Enabled: none of those before i becomes a Function.
-pub record Kept-arrows (e : Bool) (ws : List ℕ) (i : ℕ) : Type 0 where
+pub record KeptArrows (e : Bool) (ws : List ℕ) (i : ℕ) : Type 0 where
   pub before : (j : ℕ) → j < i → (eqb (kindAt ws j) Arrow && (e && not (bit 1 (attrAt ws j)))) ≡ false
 
-pub none-before : (e : Bool) (ws : List ℕ) → Kept-arrows e ws 0
+pub none-before : (e : Bool) (ws : List ℕ) → KeptArrows e ws 0
 none-before e ws = record { before = λ j l. absurd (omega arith) }
 
-pub one-more-kept : (e : Bool) (ws : List ℕ) (i k a : ℕ) (b : Bool) → Kept-arrows e ws i → k ≡ kindAt ws i → a ≡ attrAt ws i → b ≡ bit 1 a → (eqb k Arrow && (e && not b)) ≡ false → Kept-arrows e ws (i + 1)
+pub one-more-kept : (e : Bool) (ws : List ℕ) (i k a : ℕ) (b : Bool) → KeptArrows e ws i → k ≡ kindAt ws i → a ≡ attrAt ws i → b ≡ bit 1 a → (eqb k Arrow && (e && not b)) ≡ false → KeptArrows e ws (i + 1)
 one-more-kept e ws i k a b K qk qa qb h = record { before = λ j l. go j l (eqb j i) refl }
   where
     here : (eqb (kindAt ws i) Arrow && (e && not (bit 1 (attrAt ws i)))) ≡ false
@@ -189,7 +189,7 @@ one-more-kept e ws i k a b K qk qa qb h = record { before = λ j l. go j l (eqb 
     go j l true z = subst (λ (m : ℕ). (eqb (kindAt ws m) Arrow && (e && not (bit 1 (attrAt ws m)))) ≡ false) (sym (eqb-true j i z)) here
     go j l false z = let n = eqb-false j i z in K .before j (omega arith)
 
-pub all-kept : (w : Switches) (e : Bool) (rows : List ℕ) (i : ℕ) → e ≡ enabled w → GivenRows rows (rowsIn rows) → rowsIn rows ≤ i → Kept-arrows e (words rows) i → NoRow (becomesFunction w) (table rows)
+pub all-kept : (w : Switches) (e : Bool) (rows : List ℕ) (i : ℕ) → e ≡ enabled w → GivenRows rows (rowsIn rows) → rowsIn rows ≤ i → KeptArrows e (words rows) i → NoRow (becomesFunction w) (table rows)
 all-kept w e rows i q g l K = rows-no (words rows) (rowsIn rows) (g .nested) (becomesFunction w) (λ j h. rw (← q) (K .before j (omega arith)))
 
 -- an array without bindings

@@ -6,12 +6,12 @@ use native.Mathlib.Omega.{arith}
 use borrow.Author.Needs.{needs}
 use Rattle.rows.specs.Words.{words}
 use Rattle.acts.specs.View.{switchesOf}
-use Rattle.converter.proofs.Quiet.{Kept-arrows, none-before, one-more-kept, all-kept}
+use Rattle.converter.proofs.Quiet.{KeptArrows, none-before, one-more-kept, all-kept}
 use Rattle.converter.proofs.result.keeps_arrows.Statement.{statement}
 use Rattle.converter.proofs.result.keeps_arrows.Tie as tie
 
 abbrev Inv-loop : tie.InvT-loop
-Inv-loop rows enabled n i₀ i = Kept-arrows enabled (words rows) i
+Inv-loop rows enabled n i₀ i = KeptArrows enabled (words rows) i
 
 abbrev μ-loop : tie.MeasureT-loop
 μ-loop rows enabled n i₀ i = n - i
