@@ -1,6 +1,6 @@
-//! The 224 mappings of crates/base_text/specs/Letters.antt against the Rust library's `char::to_uppercase`.
+//! The 224 mappings of crates/letters/specs/Letters.antt against the Rust library's `char::to_uppercase`.
 //!
-//!   rustc -o letters tests/letters.rs && ./letters crates/base_text/specs/Letters.antt
+//!   rustc -o letters tests/letters.rs && ./letters crates/letters/specs/Letters.antt
 //!
 //! Prints the library's Unicode version; a difference ends it with a panic.
 

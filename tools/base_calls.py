@@ -1,5 +1,5 @@
 #!/usr/bin/env python3
-"""Stored calls of base text (module 2 of document 01), and the answer that the document and Unicode give for each.
+"""Stored calls of base text (module 2 of the request), and the answer that the request and Unicode give for each.
 
   base_calls.py FILE            write the calls to FILE (crates/replay_base/stdin)
   base_calls.py --check FILE    exit status 1 if FILE is not what would be written
@@ -11,7 +11,7 @@ against the rules. Capitals beyond ASCII are those of Python's str.upper(), whic
 from tables import on_one_line, runs_of, write_or_check
 
 HEAD = """\
-# Calls of base text, with the answers that document 01 and Unicode give. Made by base_calls.py.
+# Calls of base text, with the answers that the request and Unicode give. Made by base_calls.py.
 #
 # Numbers are decimal, apart by blanks and line ends; '#' starts a comment that ends with its line.
 # A call is, in this order:

@@ -1,5 +1,5 @@
 #!/usr/bin/env python3
-"""Stored conversions: tables, what is lent, and what document 01 says of the answer and of every byte lent.
+"""Stored conversions: tables, what is lent, and what the request says of the answer and of every byte lent.
 
   conversions.py FILE            write the conversions to FILE (crates/replay_convert/stdin)
   conversions.py --check FILE    exit status 1 if FILE is not what would be written
@@ -15,7 +15,7 @@ import convert_model
 from tables import KINDS, Row, lay, on_one_line, runs_of, write_or_check
 
 HEAD = """\
-# Conversions, with the answers that document 01 gives. Made by conversions.py.
+# Conversions, with the answers that the request gives. Made by conversions.py.
 #
 # Numbers are decimal, apart by blanks and line ends; '#' starts a comment that ends with its line.
 # A conversion is, in this order:

@@ -1,9 +1,9 @@
 #!/usr/bin/env python3
-"""A model of the whole conversion of document 01, on trees: the refusals 1 to 9 and the modules 1 and 3 to 9.
+"""A model of the whole conversion of the request, on trees: the refusals 1 to 9 and the modules 1 and 3 to 9.
 
-  convert_model.py --self-test    the document's sheet and its ten plots, and the answers of the stored tables of tables.py
+  convert_model.py --self-test    the request's sheet and its ten plots, and the answers of the stored tables of tables.py
 
-It is written from the document's words and from the Rust, and shares nothing with the crates. Rows become nodes that know
+It is written from the request's words and from the Rust, and shares nothing with the crates. Rows become nodes that know
 their parent, and a rule that says "outward" walks up the parents. One walk makes the bindings in their order and a new tree;
 module 7 then runs on the converted body, as a second pass.
 """

@@ -1,6 +1,6 @@
 #!/usr/bin/env python3
 """Holds docs/DIFFERENCES.md to its proved list: exit status 1 if the tables of the page are not those of
-crates/steps/specs/Differences.antt, in the same order, with the same switches, names and answers.
+crates/differences/specs/Differences.antt, in the same order, with the same switches, names and answers.
 
 On the page a table is a block of lines `switches`, `names`, `rows`, then `answer` and `bindings`, or `refusal`.
 """
@@ -43,7 +43,7 @@ def of_page():
 
 def of_list():
     found = []
-    for entry in re.findall(r"record \{(.*?)\n    \}", text_of("crates", "steps", "specs", "Differences.antt"), re.S):
+    for entry in re.findall(r"record \{(.*?)\n    \}", text_of("crates", "differences", "specs", "Differences.antt"), re.S):
         fields = dict(re.findall(r"(\w+) = ([^;]*);", entry))
         switches = [int(word == "true") for word in re.findall(r"true|false", fields["chosen"])]
         names = [bytes(numbers(name)).decode() for name in re.findall(r"\(([^)]*)\)", fields["names"])]

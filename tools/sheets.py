@@ -4,7 +4,7 @@
   sheets.py PROGRAM     run PROGRAM (target/bin/convert) over each; exit status 1 if an output differs
   sheets.py --count     how many there are, by refusal
 
-Beside each sheet stand by hand the refusal and the place that document 01 gives. The text that is wanted comes from the
+Beside each sheet stand by hand the refusal and the place that the request gives. The text that is wanted comes from the
 rendering of the form below, which shares nothing with the crates, and from convert_model.py.
 """
 import re
@@ -129,7 +129,7 @@ SHEET = row_lines(lay(one(reads_this())))
 
 def accepted():
     async_on, generators_on, off = b"0 1 0", b"0 0 1", b"0 0 0"
-    store("the document's sheet", text_of(SHEET), 0)
+    store("the request's sheet", text_of(SHEET), 0)
     store("the last line has no newline", text_of(SHEET)[:-1], 0)
     store("all off", text_of(SHEET, switches=off), 0)
     store("async on only", text_of(SHEET, switches=async_on), 0)

@@ -1,5 +1,5 @@
 #!/usr/bin/env python3
-"""Stored tables for the checks 1, 4, 2, 3, 5 of document 01, and the answer that the document gives for each.
+"""Stored tables for the checks 1, 4, 2, 3, 5 of the request, and the answer that the request gives for each.
 
   tables.py FILE            write the tables to FILE (crates/replay/stdin)
   tables.py --check FILE    exit status 1 if FILE is not what would be written
@@ -11,7 +11,7 @@ table), its place (a row from 0, for number 4 a name from 1), and for number 2 t
 import sys
 
 HEAD = """\
-# Tables for the checks 1, 4, 2, 3, 5 of document 01, with the answers that the document gives. Made by tables.py.
+# Tables for the checks 1, 4, 2, 3, 5 of the request, with the answers that the request gives. Made by tables.py.
 #
 # Numbers are decimal, apart by blanks and line ends; '#' starts a comment that ends with its line.
 # A table is, in this order:
@@ -941,7 +941,7 @@ def order():
 
 def sheet():
     part("Worked tables")
-    sound("document 01's sheet: () => this in Program",
+    sound("the request's sheet: () => this in Program",
           [[0, 0, 0, 5], [1, 0, 0, 5], [16, 2, 0, 5], [18, 0, 0, 4], [9, 0, 0, 5]], names=[], text=b"")
     table("the sheet's result is no input: row 2 is a made binding",
           [[0, 0, 0, 10], [2, 0, 0, 4], [3, 1, 1, 4], [9, 0, 0, 4], [1, 0, 0, 10], [17, 0, 0, 10], [18, 0, 0, 7],

@@ -3,7 +3,7 @@
 
 use crate::Switches;
 
-/// What `thawcopper_convert` returns: document 01's number and place, and the counts.
+/// What `thawcopper_convert` returns: the request's number and place, and the counts.
 #[repr(C)]
 #[derive(Clone, Copy, Debug, PartialEq, Eq)]
 pub struct Answer {

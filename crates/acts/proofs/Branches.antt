@@ -4,8 +4,8 @@ use mathlib.Core.Bool.{Bool, true, false, cond, not, _&&_, _||_}
 use Prim.Native.Nat.{ℕ}
 use borrow.Author.Tests.{eq-eqb, ne-eqb}
 use lib.Dec.{eqb}
-use Rattle.rows.specs.Kinds.{This, Super, Ident, Member, Computed, Call, Assign, Arrow, Function, Method, Field, StaticBlock, Property, Target}
-use Rattle.rows.specs.Forest.{Rows}
+use Rattle.grammar.specs.Kinds.{This, Super, Ident, Member, Computed, Call, Assign, Arrow, Function, Method, Field, StaticBlock, Property, Target}
+use Rattle.forest.specs.Forest.{Rows}
 use Rattle.steps.specs.Mode.{Switches, bit, enabled, asyncOnly}
 use Rattle.steps.specs.Naming.{Names, namedArguments}
 use Rattle.steps.specs.Paths.{Step.along, Step.inParams, Step.inBody, Step.inArrow, Step.inValue, Step.inStatic}

@@ -7,13 +7,13 @@ use native.Mathlib.Omega.{arith}
 use borrow.Author.Tests.{lt-ltb, le-leb, eqb-false, leb-true, ltb-true, ltb-false, not-false}
 use lib.ListN.{length}
 use lib.Dec.{ltb, leb, eqb}
-use Rattle.rows.specs.Words.{namesIn}
-use Rattle.rows.specs.Utf8.{within}
-use Rattle.rows.specs.Names.{namesFit, badName, firstBadName}
-use Rattle.rows.specs.declared.Found.the-variants.{At, Nothing}
-use Rattle.rows.proofs.Bools.{and-left, and-right}
-use Rattle.rows.proofs.Seeking.{first-below, first-none}
-use Rattle.rows.proofs.Ordering.{NameSizes, name-sizes}
+use Rattle.names.specs.Words.{namesIn}
+use Rattle.names.specs.Utf8.{within}
+use Rattle.names.specs.Names.{namesFit, badName, firstBadName}
+use Rattle.names.specs.declared.Found.the-variants.{At, Nothing}
+use Rattle.names.proofs.Bools.{and-left, and-right}
+use Rattle.names.proofs.Seeking.{first-below, first-none}
+use Rattle.names.proofs.GoodNames.{NameSizes, name-sizes}
 use Rattle.base_text.specs.Bindings.{recordBytes, mostRecords, recordsIn, roleOf, propertyNumber, frameOf, propertyOf, recordOk, bindingOk}
 use Rattle.base_text.specs.Bases.{propertyOk}
 use Rattle.base_text.specs.Refusals.{sizesOk}

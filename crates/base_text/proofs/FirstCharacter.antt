@@ -10,9 +10,9 @@ use borrow.Author.Tests.{leb-true, lt-ltb, le-ltb, eq-eqb}
 use lib.Dec.{leb, eqb}
 use lib.ListN.{length, getD, take}
 use lib.Seq.{take-append-le}
-use Rattle.rows.specs.Utf8.{within, tail, seqOf, seqAt, two, three, four, utf8From, utf8}
-use Rattle.rows.proofs.Bools.{and-left, and-right}
-use Rattle.base_text.specs.Characters.{codeOf, firstWidth, firstCode, encode}
+use Rattle.names.specs.Utf8.{within, tail, seqOf, seqAt, two, three, four, utf8From, utf8}
+use Rattle.names.proofs.Bools.{and-left, and-right}
+use Rattle.letters.specs.Characters.{codeOf, firstWidth, firstCode, encode}
 
 and-false : (b : Bool) → b && false ≡ false
 and-false true = refl

@@ -1,6 +1,4 @@
-pub mod Table
 pub mod FirstCharacter
-pub mod Casing
 pub mod Pieces
 pub mod Checking
 pub mod Telling

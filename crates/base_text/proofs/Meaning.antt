@@ -6,12 +6,12 @@ use mathlib.Core.List.{List}
 use borrow.Author.Tests.{le-ltb, ltb-true, ltb-false}
 use lib.Dec.{T, ltb}
 use lib.ListN.{length}
-use Rattle.rows.specs.Words.{namesIn}
-use Rattle.rows.specs.Names.{bytesOf, firstBadName}
-use Rattle.rows.specs.declared.Found.{Found}
-use Rattle.rows.specs.declared.Found.the-variants.{At, Nothing}
-use Rattle.base_text.specs.Characters.{firstCode}
-use Rattle.base_text.specs.Letters.{known}
+use Rattle.names.specs.Words.{namesIn}
+use Rattle.names.specs.Names.{bytesOf, firstBadName}
+use Rattle.names.specs.declared.Found.{Found}
+use Rattle.names.specs.declared.Found.the-variants.{At, Nothing}
+use Rattle.letters.specs.Characters.{firstCode}
+use Rattle.letters.specs.Letters.{known}
 use Rattle.base_text.specs.Bindings.{roleOf, propertyNumber, propertyOf, bindingOk}
 use Rattle.base_text.specs.Bases.{baseOf, withProperty, textFor}
 use Rattle.base_text.specs.Refusals.{sizesOk, unlessNamed, fitted, namedAnswer, answerFor, baseText, spelled}

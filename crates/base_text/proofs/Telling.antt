@@ -9,11 +9,11 @@ use borrow.Author.Tests.{lt-ltb, le-ltb, eq-eqb, ne-eqb, not-true, not-false}
 use lib.Dec.{eqb}
 use lib.ListN.{length, take, drop, length-append, length-drop}
 use lib.Seq.{paste, length-take-le, take-all}
-use Rattle.rows.specs.Words.{namesIn}
-use Rattle.rows.specs.Names.{bytesOf, firstBadName}
-use Rattle.rows.specs.declared.Found.the-variants.{At, Nothing}
-use Rattle.base_text.specs.Characters.{firstCode}
-use Rattle.base_text.specs.Letters.{known, Capitals}
+use Rattle.names.specs.Words.{namesIn}
+use Rattle.names.specs.Names.{bytesOf, firstBadName}
+use Rattle.names.specs.declared.Found.the-variants.{At, Nothing}
+use Rattle.letters.specs.Characters.{firstCode}
+use Rattle.letters.specs.Letters.{known, Capitals}
 use Rattle.base_text.specs.Bindings.{roleOf, propertyNumber, propertyOf, bindingOk}
 use Rattle.base_text.specs.Bases.{bases, basePart, baseOf, withProperty, textFor, HeadOf}
 use Rattle.base_text.specs.Refusals.{sizesOk, namedAnswer, answerFor, baseText, spelled, Told}

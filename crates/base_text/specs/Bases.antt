@@ -5,9 +5,9 @@ use mathlib.Core.Bool.{Bool, true, false, cond, _&&_, not}
 use mathlib.Core.List.{List, [], _∷_, _++_}
 use lib.ListN.{length, take, drop}
 use lib.Dec.{leb, ltb, eqb}
-use Rattle.rows.specs.Names.{bytesOf, argumentsBytes, badName}
-use Rattle.base_text.specs.Characters.{firstWidth, firstCode}
-use Rattle.base_text.specs.Letters.{capital, Capitals}
+use Rattle.names.specs.Names.{bytesOf, argumentsBytes, badName}
+use Rattle.letters.specs.Characters.{firstWidth, firstCode}
+use Rattle.letters.specs.Letters.{capital, Capitals}
 use Rattle.base_text.specs.declared.Property.{Property}
 use Rattle.base_text.specs.declared.Property.the-variants.{Named, Absent}
 

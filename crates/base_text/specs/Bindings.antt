@@ -4,8 +4,8 @@ use mathlib.Core.Bool.{Bool, true, false, cond, _||_, _&&_}
 use mathlib.Core.List.{List}
 use lib.ListN.{getD, length}
 use lib.Dec.{leb, ltb, eqb}
-use Rattle.rows.specs.Words.{words}
-use Rattle.rows.specs.Utf8.{within}
+use Rattle.names.specs.Words.{words}
+use Rattle.names.specs.Utf8.{within}
 use Rattle.base_text.specs.declared.Property.{Property}
 use Rattle.base_text.specs.declared.Property.the-variants.{Named, Absent}
 
@@ -24,7 +24,7 @@ mostRecords = 65535
 abbrev pub recordsIn : List ℕ → ℕ
 recordsIn bindings = length bindings / recordBytes
 
--- the words of binding `number`, from 1. `role` is what the document calls its use, a keyword here
+-- the words of binding `number`, from 1. `role` is what the request calls its use, a keyword here
 abbrev pub roleOf : (bindings : List ℕ) (number : ℕ) → ℕ
 roleOf bindings number = getD (words bindings) (recordWords * (number - 1)) 0
 

@@ -5,12 +5,12 @@ use mathlib.Core.Bool.{Bool, true, false, cond, _&&_}
 use mathlib.Core.List.{List, _++_}
 use lib.ListN.{length, take, drop}
 use lib.Dec.{leb, ltb, eqb}
-use Rattle.rows.specs.Words.{namesIn}
-use Rattle.rows.specs.Names.{namesFit, bytesOf, firstBadName}
-use Rattle.rows.specs.declared.Found.{Found}
-use Rattle.rows.specs.declared.Found.the-variants.{At, Nothing}
-use Rattle.base_text.specs.Characters.{firstCode}
-use Rattle.base_text.specs.Letters.{known}
+use Rattle.names.specs.Words.{namesIn}
+use Rattle.names.specs.Names.{namesFit, bytesOf, firstBadName}
+use Rattle.names.specs.declared.Found.{Found}
+use Rattle.names.specs.declared.Found.the-variants.{At, Nothing}
+use Rattle.letters.specs.Characters.{firstCode}
+use Rattle.letters.specs.Letters.{known}
 use Rattle.base_text.specs.Bindings.{recordBytes, mostRecords, roleOf, propertyNumber, propertyOf, bindingOk}
 use Rattle.base_text.specs.Bases.{baseOf, withProperty, textFor}
 use Rattle.base_text.specs.declared.Property.{Property}
@@ -18,7 +18,7 @@ use Rattle.base_text.specs.declared.Property.the-variants.{Named, Absent
 use Rattle.base_text.specs.declared.Spelling.{Spelling}
 use Rattle.base_text.specs.declared.Spelling.the-variants.{Written, Malformed, BadName, BadBinding, UnknownLetter, NoRoom}
 
--- Document 01's number for each answer, its place, and its count of bytes. "Every refusal has zero counts"; "an acceptance has number 0, place 0".
+-- The request's number for each answer (docs/FORMAT.md, "Base text"), its place, and its count of bytes. "Every refusal has zero counts"; "an acceptance has number 0, place 0".
 abbrev pub numberOf : Spelling → ℕ
 numberOf (Written bytes) = 0
 numberOf Malformed = 1

@@ -1,6 +1,6 @@
 // The record of a binding. Refusal 11.
 use crate::Property;
-use rows::words::cell;
+use names::words::cell;
 ghost use mathlib.Core.Path.{_≡_};
 ghost use Prim.Native.Nat.{ℕ, _*_, _/_, _<_, _≤_};
 ghost use lib.ListN.{length};

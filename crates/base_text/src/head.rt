@@ -1,11 +1,11 @@
 // The first character of a text.
-use crate::letters::capital_of;
-use rows::utf8::byte;
-use rows::utf8::seq_at;
+use letters::capital_of;
+use names::utf8::byte;
+use names::utf8::seq_at;
 ghost use mathlib.Core.Path.{_≡_};
 ghost use Prim.Native.Nat.{ℕ, _<_};
 ghost use lib.ListN.{length};
-ghost use Rattle.base_text.specs.Characters.{codeOf};
+ghost use Rattle.letters.specs.Characters.{codeOf};
 ghost use Rattle.base_text.specs.Bases.{HeadOf};
 
 // Its width, and the bytes that stand for it.

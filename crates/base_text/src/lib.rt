@@ -2,14 +2,12 @@
 mod bases;
 mod bindings;
 mod head;
-mod letters;
 mod spell;
 mod write;
 
 use bindings::MOST_RECORDS;
 use bindings::RECORD_BYTES;
-use rows::Found;
-use rows::names;
+use names::Found;
 ghost use mathlib.Core.Path.{_≡_};
 ghost use mathlib.Core.Bool.{Bool};
 ghost use Prim.Native.Nat.{ℕ};

@@ -5,12 +5,12 @@ use crate::bases::base_of;
 use crate::head::head_of;
 use crate::write::put_all;
 use crate::write::put_base;
-use rows::words::cell;
+use names::words::cell;
 ghost use mathlib.Core.Path.{_≡_};
 ghost use mathlib.Core.Bool.{true, false};
 ghost use Prim.Native.Nat.{ℕ, _+_, _*_, _<_, _≤_};
 ghost use lib.ListN.{length};
-ghost use Rattle.rows.specs.Names.{badName, bytesOf};
+ghost use Rattle.names.specs.Names.{badName, bytesOf};
 ghost use Rattle.base_text.specs.Bases.{baseOf, basePart, withProperty, textFor, propertyOk};
 ghost use Rattle.base_text.specs.Refusals.{namedAnswer, answerFor, Told};
 

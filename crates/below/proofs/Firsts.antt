@@ -5,10 +5,10 @@ use mathlib.Core.Bool.{_&&_}
 use mathlib.Core.List.{List}
 use native.Mathlib.Omega.{arith}
 use lib.Dec.{eqb}
-use Rattle.rows.specs.Kinds.{Super, Call}
-use Rattle.rows.specs.Words.{words, kindAt, attrAt, nameAt, endAt}
-use Rattle.rows.specs.Forest.{Rows, Rows.none, Rows.node, rowsAt}
-use Rattle.rows.proofs.Walking.{rows-none, rows-step, inner}
+use Rattle.grammar.specs.Kinds.{Super, Call}
+use Rattle.names.specs.Words.{words, kindAt, attrAt, nameAt, endAt}
+use Rattle.forest.specs.Forest.{Rows, Rows.none, Rows.node, rowsAt}
+use Rattle.forest.proofs.Walking.{rows-none, rows-step, inner}
 use Rattle.steps.specs.Super.{firstSuper, firstAccess, firstName, firstInside}
 use Rattle.steps.specs.AfterSuper.{superCall}
 use Rattle.below.specs.Below.{At, children, firstKind, overSuper, Firsts}

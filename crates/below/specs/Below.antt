@@ -5,10 +5,10 @@ use mathlib.Core.Bool.{Bool, _&&_, _||_}
 use mathlib.Core.List.{List}
 use lib.Dec.{eqb}
 use lib.ListN.{length}
-use Rattle.rows.specs.Kinds.{Super, Member, Computed}
-use Rattle.rows.specs.Words.{words, endAt}
-use Rattle.rows.specs.Forest.{Rows, Rows.none, Rows.node, rowsAt}
-use Rattle.rows.specs.Nested.{Nested}
+use Rattle.grammar.specs.Kinds.{Super, Member, Computed}
+use Rattle.names.specs.Words.{words, endAt}
+use Rattle.forest.specs.Forest.{Rows, Rows.none, Rows.node, rowsAt}
+use Rattle.forest.specs.Nested.{Nested}
 use Rattle.steps.specs.Super.{firstSuper, firstAccess, firstName, firstInside}
 use Rattle.steps.specs.AfterSuper.{superCall}
 use Rattle.below.specs.declared.Below.{Below}

@@ -1,14 +1,14 @@
 // What stands right below a row of a table: the first rows of the three levels under it, read from
 // the bytes.
-use rows::kinds::CALL;
-use rows::kinds::COMPUTED;
-use rows::kinds::MEMBER;
-use rows::kinds::SUPER;
-use rows::words::cell;
+use grammar::kinds::CALL;
+use grammar::kinds::COMPUTED;
+use grammar::kinds::MEMBER;
+use grammar::kinds::SUPER;
+use names::words::cell;
 ghost use mathlib.Core.Path.{_≡_};
 ghost use Prim.Native.Nat.{_+_, _*_, _<_};
 ghost use lib.ListN.{length};
-ghost use Rattle.rows.specs.Words.{words, kindAt, attrAt, nameAt, endAt, rowsIn};
+ghost use Rattle.names.specs.Words.{words, kindAt, attrAt, nameAt, endAt, rowsIn};
 ghost use Rattle.steps.specs.Super.{firstSuper, firstAccess, firstName, firstInside};
 ghost use Rattle.steps.specs.AfterSuper.{superCall};
 ghost use Rattle.below.specs.Below.{At, children, firstKind, overSuper, Firsts, Seen};
@@ -116,23 +116,6 @@ fn over_super(kind: usize, inner: usize) -> bool
     ((kind == MEMBER) | (kind == COMPUTED)) & (inner == SUPER)
 }
 
-// Whether the first child of row i is Super.
-pub fn first_super(rows: &[u8], i: usize) -> bool
-    requires { ⌜ At (now rows) (rowsIn (now rows)) i ⌝ }
-    ensures { λ r. ⌜ r ≡ firstSuper (children (words (now (rows .entry))) i) ⌝ }
-{
-    first_kind(rows, i) == SUPER
-}
-
-// Whether the first child of row i is `super.p` or `super[k]`.
-pub fn first_access(rows: &[u8], i: usize) -> bool
-    requires { ⌜ At (now rows) (rowsIn (now rows)) i ⌝ }
-    ensures { λ r. ⌜ r ≡ firstAccess (children (words (now (rows .entry))) i) ⌝ }
-{
-    let l = descend(rows, i);
-    over_super(l.one, l.two)
-}
-
 // Whether the first child of row i is `super(..)`.
 pub fn super_call(rows: &[u8], i: usize) -> bool
     requires { ⌜ At (now rows) (rowsIn (now rows)) i ⌝ }
@@ -140,15 +123,6 @@ pub fn super_call(rows: &[u8], i: usize) -> bool
 {
     let l = descend(rows, i);
     (l.one == CALL) & (l.two == SUPER)
-}
-
-// Whether the first child of the first child of row i is `super.p` or `super[k]`.
-pub fn deep_access(rows: &[u8], i: usize) -> bool
-    requires { ⌜ At (now rows) (rowsIn (now rows)) i ⌝ }
-    ensures { λ r. ⌜ r ≡ firstAccess (firstInside (children (words (now (rows .entry))) i)) ⌝ }
-{
-    let l = descend(rows, i);
-    over_super(l.two, l.three)
 }
 
 // The name of the first child of the first child of row i; 0 where there is none.

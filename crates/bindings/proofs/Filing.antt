@@ -10,7 +10,7 @@ use lib.Dec.{eqb, ltb}
 use lib.ListN.{length, take, drop, getD, set, length-set, length-drop, length-append, List·getD-append}
 use lib.Seq.{getD-set-same, getD-set-other, getD-drop, drop-set-lt, drop-set-add, take-append-le, take-append-seam}
 use Rattle.steps.specs.Bindings.{Binding, Binding.bind, paramsOf, closed}
-use Rattle.rows.proofs.Bools.{and-right}
+use Rattle.names.proofs.Bools.{and-right}
 use Rattle.bindings.specs.Search.{lastWhere, firstWhere, captureOf, isAccessor, ofClass, noteCapture, oneParam}
 use Rattle.bindings.specs.Store.{bindAt, binds, Bare, Store, firstTable, lastTable, linkTable, pushed, chained}
 use Rattle.bindings.specs.Post.{Kept}

@@ -9,7 +9,7 @@ use lib.Dec.{eqb}
 use lib.ListN.{length, take, getD, length-append}
 use lib.Seq.{take-length, take-take, getD-take, length-take-le}
 use Rattle.steps.specs.Bindings.{Binding, Binding.bind, is, number, note}
-use Rattle.rows.specs.Names.{sameName}
+use Rattle.names.specs.Names.{sameName}
 use Rattle.spelling.proofs.Hashing.{same-bytes-of}
 use Rattle.steps.specs.Naming.{Names, sameAs}
 use Rattle.steps.specs.Outcome.{namesOf}

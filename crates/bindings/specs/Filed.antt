@@ -5,7 +5,7 @@ use Prim.Native.Nat.{ℕ, _+_, _*_, _-_, _%_, _≤_, _<_}
 use mathlib.Core.Bool.{Bool, true, _&&_}
 use lib.Dec.{eqb}
 use lib.ListN.{getD, length, take, drop}
-use Rattle.rows.specs.Names.{bytesOf}
+use Rattle.names.specs.Names.{bytesOf}
 use Rattle.spelling.specs.Hash.{hashOf}
 use Rattle.steps.specs.Bindings.{Binding, Binding.bind}
 use Rattle.bindings.specs.Search.{lastWhere, isAccessor}

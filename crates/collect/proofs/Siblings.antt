@@ -5,10 +5,10 @@ use mathlib.Core.List.{List}
 use Prim.Native.Nat.{ℕ, _+_, _<_, _≤_}
 use native.Mathlib.Omega.{arith}
 use lib.ListN.{length}
-use Rattle.rows.specs.Words.{words, rowsIn, kindAt, attrAt, nameAt, endAt}
-use Rattle.rows.specs.Forest.{Rows, rowsAt}
-use Rattle.rows.specs.Nested.{Nested, Range}
-use Rattle.rows.proofs.Walking.{rows-none, inner, later, rows-step}
+use Rattle.names.specs.Words.{words, rowsIn, kindAt, attrAt, nameAt, endAt}
+use Rattle.forest.specs.Forest.{Rows, rowsAt}
+use Rattle.forest.specs.Nested.{Nested, Range}
+use Rattle.forest.proofs.Walking.{rows-none, inner, later, rows-step}
 use Rattle.steps.specs.Mode.{Switches}
 use Rattle.steps.specs.Naming.{Names}
 use Rattle.steps.specs.Acts.{Ctx, Act, Op, Op.row, Op.drop, Op.name, Op.call}

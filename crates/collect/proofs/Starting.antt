@@ -3,8 +3,8 @@ use mathlib.Core.Path.{_≡_, ap, sym, subst, _∙_}
 use mathlib.Core.List.{List, []}
 use Prim.Native.Nat.{ℕ, _<_}
 use lib.ListN.{length}
-use Rattle.rows.specs.Words.{rowsIn}
-use Rattle.rows.specs.Forest.{table}
+use Rattle.names.specs.Words.{rowsIn}
+use Rattle.forest.specs.Forest.{table}
 use Rattle.steps.specs.Mode.{Switches}
 use Rattle.steps.specs.Naming.{Names}
 use Rattle.steps.specs.Slots.{free}

@@ -4,7 +4,7 @@ use mathlib.Core.List.{List}
 use mathlib.Core.Path.{_≡_}
 use Prim.Native.Nat.{ℕ, _+_, _≤_, _<_}
 use lib.ListN.{length}
-use Rattle.rows.specs.Words.{words, rowsIn, kindAt, attrAt, nameAt, endAt}
+use Rattle.names.specs.Words.{words, rowsIn, kindAt, attrAt, nameAt, endAt}
 use Rattle.below.specs.Below.{At, children}
 use Rattle.steps.specs.Mode.{Switches}
 use Rattle.steps.specs.Naming.{Names}

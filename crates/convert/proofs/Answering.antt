@@ -5,14 +5,14 @@ use Prim.Native.Nat.{ℕ, _+_, _*_, _/_, _%_, _≤_}
 use native.Mathlib.Omega.{arith}
 use lib.ListN.{length, take, drop, length-append}
 use lib.Seq.{sets-eq, length-sets, take-at}
-use Rattle.rows.specs.Words.{words}
+use Rattle.names.specs.Words.{words}
 use Rattle.steps.specs.Mode.{Switches}
 use Rattle.steps.specs.Outcome.{Outcome, outcome}
 use Rattle.output.specs.Output.{le32}
 use Rattle.output.specs.Bytes.{bytesOf}
 use Rattle.output.proofs.Placing.{length-bytes}
-use Rattle.converter.specs.Converting.{outcomeOf, numberIn, placeIn, rowWords, recordWords, atFront, Answers}
-use Rattle.sheet.specs.Print.{printed, Wrote}
+use Rattle.answer.specs.Converting.{outcomeOf, numberIn, placeIn, rowWords, recordWords, atFront, Answers}
+use Rattle.printer.specs.Print.{printed, Wrote}
 use Rattle.convert.specs.Output.{answer, outcomeFor, Shows}
 
 -- the bytes of words read back as those words

@@ -9,10 +9,10 @@ use lib.Seq.{sets, sets-eq, take-at}
 use Rattle.steps.specs.Mode.{switches}
 use Rattle.output.specs.Bytes.{bytesOf}
 use Rattle.output.proofs.Placing.{length-bytes}
-use Rattle.sheet.specs.Print.{printed}
-use Rattle.sheet.specs.Parse.{Read, Read.sheet, Read.faulty, joined, pairsFrom, Lent, Small, Told}
-use Rattle.sheet.specs.declared.parse.Parsed.{Parsed}
-use Rattle.sheet.specs.declared.parse.Parsed.the-variants.{Sheet, Faulty}
+use Rattle.printer.specs.Print.{printed}
+use Rattle.parser.specs.Parse.{Read, Read.sheet, Read.faulty, joined, pairsFrom, Lent, Small, Told}
+use Rattle.parser.specs.declared.Parsed.{Parsed}
+use Rattle.parser.specs.declared.Parsed.the-variants.{Sheet, Faulty}
 use Rattle.convert.specs.Output.{answer, answerTo, outcomeFor}
 
 -- a run at the front

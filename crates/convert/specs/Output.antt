@@ -6,9 +6,9 @@ use lib.ListN.{length, take}
 use Rattle.steps.specs.Mode.{Switches}
 use Rattle.steps.specs.Outcome.{Outcome, Room, outcome}
 use Rattle.output.specs.Bytes.{bytesOf}
-use Rattle.converter.specs.Converting.{numberIn, placeIn, rowWords, recordWords}
-use Rattle.sheet.specs.Print.{printed}
-use Rattle.sheet.specs.Parse.{Read, Read.sheet, Read.faulty, joined, pairsFrom, sheetOf}
+use Rattle.answer.specs.Converting.{numberIn, placeIn, rowWords, recordWords}
+use Rattle.printer.specs.Print.{printed}
+use Rattle.parser.specs.Parse.{Read, Read.sheet, Read.faulty, joined, pairsFrom, sheetOf}
 
 -- "The convert program prints, with room for 2,048 rows and 256 bindings"
 abbrev pub room : Room

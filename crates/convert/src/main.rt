@@ -1,19 +1,19 @@
 // The program: a sheet on the standard input, its answer on the standard output. The answer is
 // whole before its first byte is written.
 use acts::switches::Switches;
-use converter::answer::Converted;
+use answer::Converted;
 use converter::convert;
-use sheet::parse::Parsed;
-use sheet::parse::parse;
-use sheet::print::print;
+use parser::Parsed;
+use parser::parse;
+use printer::print;
 ghost use mathlib.Core.Path.{_≡_};
 ghost use mathlib.Core.List.{List, []};
 ghost use Prim.Native.Nat.{_+_, _*_, _/_, _≤_, _<_, _^_};
 ghost use lib.ListN.{length, take};
-ghost use Rattle.rows.specs.Words.{words};
+ghost use Rattle.names.specs.Words.{words};
 ghost use Rattle.steps.specs.Mode.{switches};
-ghost use Rattle.converter.specs.Answer.{numberOf, placeOf, rowsOf, bindingsOf};
-ghost use Rattle.sheet.specs.Print.{printed, Wrote};
+ghost use Rattle.answer.specs.Answer.{numberOf, placeOf, rowsOf, bindingsOf};
+ghost use Rattle.printer.specs.Print.{printed, Wrote};
 ghost use Rattle.convert.specs.Output.{answer, outcomeFor, outputFor, Shows};
 
 // Room for the input: one byte more than the longest text that is read to its end, so that a full

@@ -1,6 +1,4 @@
-// The converter's entry: every refusal in the document's order, and the result.
-pub mod answer;
-pub mod copy;
+// The converter's entry: every refusal in the request's order, and the result.
 mod result;
 
 use acts::switches::Switches;
@@ -12,8 +10,8 @@ use rows::check;
 use steps::ArrowFunctionConverter;
 ghost use mathlib.Core.Path.{_≡_};
 ghost use Rattle.acts.specs.View.{switchesOf};
-ghost use Rattle.converter.specs.Answer as answers;
-ghost use Rattle.converter.specs.Converting.{outcomeOf, Answers, KeepsOwners};
+ghost use Rattle.answer.specs.Answer as answers;
+ghost use Rattle.answer.specs.Converting.{outcomeOf, Answers, KeepsOwners};
 
 // "rows 0 or over 16,384"
 const MOST_ROWS: usize = 16384;

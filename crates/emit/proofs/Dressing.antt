@@ -5,16 +5,16 @@ use mathlib.Core.List.{List}
 use Prim.Native.Nat.{ℕ, _+_, _<_, _^_}
 use native.Mathlib.Omega.{arith}
 use lib.Dec.{eqb}
-use Rattle.rows.specs.Kinds.{Body, Return}
-use Rattle.rows.specs.Forest.{Rows, Rows.none, Rows.node, size}
+use Rattle.grammar.specs.Kinds.{Body, Return}
+use Rattle.forest.specs.Forest.{Rows, Rows.none, Rows.node, size}
 use Rattle.steps.specs.ArrowToFunction.{dress}
 use Rattle.steps.specs.Slots.{wrapped}
 use Rattle.output.specs.Output.{put, setEnd, Done}
 use Rattle.output.proofs.Writing.{nest, named, size-one}
-use Rattle.emit.specs.declared.Walk.{Walk}
-use Rattle.emit.specs.declared.Plan.{Plan}
-use Rattle.emit.specs.Plans.{built, dressed}
-use Rattle.emit.specs.Dressing.{opened}
+use Rattle.emit_plan.specs.declared.Walk.{Walk}
+use Rattle.emit_plan.specs.declared.Plan.{Plan}
+use Rattle.emit_plan.specs.Plans.{built, dressed}
+use Rattle.emit_plan.specs.Dressing.{opened}
 
 -- the rows f, in a Body and Return where they are wanted
 abbrev bodied : Bool → Rows → Rows

@@ -5,11 +5,11 @@ use mathlib.Core.List.{List}
 use Prim.Native.Nat.{ℕ, _+_, _*_, _-_, _≤_, _<_, _^_}
 use native.Mathlib.Omega.{arith}
 use lib.Dec.{eqb}
-use Rattle.rows.specs.Kinds.{ExprStmt, Body, Return}
-use Rattle.rows.specs.Words.{words, rowsIn, kindAt, attrAt, nameAt, endAt}
-use Rattle.rows.specs.Forest.{Rows, Rows.none, Rows.node, size, rowsAt}
-use Rattle.rows.specs.Nested.{Nested, Range}
-use Rattle.rows.proofs.Walking.{rows-none, inner, later, rows-step}
+use Rattle.grammar.specs.Kinds.{ExprStmt, Body, Return}
+use Rattle.names.specs.Words.{words, rowsIn, kindAt, attrAt, nameAt, endAt}
+use Rattle.forest.specs.Forest.{Rows, Rows.none, Rows.node, size, rowsAt}
+use Rattle.forest.specs.Nested.{Nested, Range}
+use Rattle.forest.proofs.Walking.{rows-none, inner, later, rows-step}
 use Rattle.steps.specs.Mode.{Switches}
 use Rattle.steps.specs.Naming.{Names}
 use Rattle.steps.specs.Outcome.{namesOf}
@@ -31,9 +31,9 @@ use Rattle.output.specs.Output.{Done}
 use Rattle.output.proofs.Loops.{Left, turn, room-left, none-left}
 use Rattle.plan.specs.Frames.{FramesBelow}
 use Rattle.plan.proofs.Leaving.{rows-size}
-use Rattle.emit.specs.declared.Walk.{Walk}
-use Rattle.emit.specs.declared.Plan.{Plan}
-use Rattle.emit.specs.Plans.{listOf, listed, inside, dressed, Planned, frameIn}
+use Rattle.emit_plan.specs.declared.Walk.{Walk}
+use Rattle.emit_plan.specs.declared.Plan.{Plan}
+use Rattle.emit_plan.specs.Plans.{listOf, listed, inside, dressed, Planned, frameIn}
 
 join-assoc : (f g h : Rows) → join (join f g) h ≡ join f (join g h)
 unfolding join

@@ -3,8 +3,8 @@ use mathlib.Core.Path.{_≡_, ap, sym, subst}
 use mathlib.Core.List.{List}
 use native.Mathlib.Omega.{arith}
 use Prim.Native.Nat.{ℕ, _+_, _<_, _^_}
-use Rattle.rows.specs.Words.{rowsIn}
-use Rattle.rows.specs.Forest.{size, table}
+use Rattle.names.specs.Words.{rowsIn}
+use Rattle.forest.specs.Forest.{size, table}
 use Rattle.spelling.specs.Spelling.{GivenNames}
 use Rattle.steps.specs.Outcome.{namesOf}
 use Rattle.steps.specs.Slots.{free}
@@ -14,8 +14,8 @@ use Rattle.steps.specs.Fused.{emitS}
 use Rattle.acts.specs.View.{switchesOf}
 use Rattle.plan.specs.Ranged.{Ranged}
 use Rattle.plan.specs.Frames.{FramesBelow}
-use Rattle.emit.specs.declared.Walk.{Walk}
-use Rattle.emit.specs.Plans.{listOf, listed, emitted, Holds, ListPre}
+use Rattle.emit_plan.specs.declared.Walk.{Walk}
+use Rattle.emit_plan.specs.Plans.{listOf, listed, emitted, Holds, ListPre}
 
 module _ (rows names text M : List ℕ) (v : Walk) {s : Spot} (p : s ≡ spot start free) where
   pub program-rows : emitted rows names text M v ≡ listed rows names text M v 0 copy s s 0 (rowsIn rows)

@@ -7,15 +7,15 @@ use native.Mathlib.Omega.{arith}
 use borrow.Author.Tests.{eqb-true, eqb-false, ne-eqb}
 use lib.Dec.{eqb}
 use lib.ListN.{drop, getD}
-use Rattle.rows.specs.Kinds.{Declarator}
-use Rattle.rows.specs.Forest.{Rows, Rows.none, Rows.node, size}
+use Rattle.grammar.specs.Kinds.{Declarator}
+use Rattle.forest.specs.Forest.{Rows, Rows.none, Rows.node, size}
 use Rattle.steps.specs.Joining.{join}
 use Rattle.steps.specs.Bindings.{Binding, Binding.bind}
 use Rattle.steps.specs.TopInsertion.{headN, tailN, paramNumbers, pastProp, past, accessor, accessorDecls}
 use Rattle.output.specs.Output.{Done}
-use Rattle.output.specs.Insertions.{accessorOf, accessorDecl}
+use Rattle.inserted.specs.Insertions.{accessorOf, accessorDecl}
 use Rattle.output.proofs.Loops.{Left, all-left, turn, room-left, none-left}
-use Rattle.output.proofs.Shapes.{accessor-heads}
+use Rattle.inserted.proofs.Shapes.{accessor-heads}
 use Rattle.bindings.specs.Search.{ofClass}
 use Rattle.bindings.specs.Store.{bindAt, binds, Store}
 use Rattle.insertion.specs.Declared.{Held, frameAccessors, paramAfter}

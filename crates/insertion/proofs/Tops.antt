@@ -7,16 +7,16 @@ use native.Mathlib.Omega.{arith}
 use borrow.Author.Tests.{eqb-true, eqb-false}
 use lib.Dec.{eqb}
 use lib.ListN.{getD}
-use Rattle.rows.specs.Kinds.{Var, Declarator}
-use Rattle.rows.specs.Forest.{Rows, Rows.none, Rows.node, size}
+use Rattle.grammar.specs.Kinds.{Var, Declarator}
+use Rattle.forest.specs.Forest.{Rows, Rows.none, Rows.node, size}
 use Rattle.steps.specs.Joining.{join}
 use Rattle.steps.specs.Naming.{Names}
 use Rattle.steps.specs.Bindings.{Binding, Binding.bind, number}
 use Rattle.steps.specs.Fused.{declared}
 use Rattle.steps.specs.TopInsertion.{past, accessor, argumentsDecl, accessorDecls, paramNumbers, thisDecl, varFirst}
-use Rattle.output.specs.Insertions.{accessorOf, accessorDecl}
+use Rattle.inserted.specs.Insertions.{accessorOf, accessorDecl}
 use Rattle.output.proofs.Writing.{size-join, size-node, size-none}
-use Rattle.output.proofs.Shapes.{this-none, arguments-none, arguments-join, size-arguments, size-late, size-here}
+use Rattle.inserted.proofs.Shapes.{this-none, arguments-none, arguments-join, size-arguments, size-late, size-here}
 use Rattle.bindings.specs.Store.{binds, Store}
 use Rattle.bindings.proofs.Numbered.{this-number, arguments-number}
 use Rattle.insertion.specs.Declared.{Held, frameAccessors, frameDecls, paramAfter, bareAt}

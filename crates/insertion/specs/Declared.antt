@@ -4,7 +4,7 @@ use mathlib.Core.Bool.{Bool, cond, _&&_}
 use Prim.Native.Nat.{ℕ, _+_, _*_, _≤_, _<_}
 use lib.Dec.{eqb}
 use lib.ListN.{getD}
-use Rattle.rows.specs.Forest.{Rows}
+use Rattle.forest.specs.Forest.{Rows}
 use Rattle.steps.specs.TopInsertion.{argumentsDecl, accessorDecls, paramNumbers, thisDecl}
 use Rattle.bindings.specs.Store.{binds, Store}
 

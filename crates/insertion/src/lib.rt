@@ -2,20 +2,19 @@
 ghost use mathlib.Core.Path.{_≡_};
 ghost use Prim.Native.Nat.{_+_, _*_, _<_, _≤_, _^_};
 ghost use lib.ListN.{length, getD};
-ghost use Rattle.rows.specs.Kinds.{Var};
-ghost use Rattle.rows.specs.Forest.{Rows.none, Rows.node, size};
+ghost use Rattle.grammar.specs.Kinds.{Var};
+ghost use Rattle.forest.specs.Forest.{Rows.none, Rows.node, size};
 ghost use Rattle.steps.specs.TopInsertion.{varFirst};
 ghost use Rattle.output.specs.Output.{Done};
 ghost use Rattle.output.specs.Held.{grown};
 ghost use Rattle.insertion.specs.Declared.{Held, frameAccessors, frameDecls, paramAfter, bareAt};
 use bindings::entry;
-use output::inserted;
+use grammar::kinds;
 use output::writer::Writer;
 use output::writer::close;
 use output::writer::finish;
 use output::writer::new;
 use output::writer::put;
-use rows::kinds;
 
 const VAR: u32 = kinds::VAR as u32;
 

@@ -3,7 +3,6 @@ pub mod Writing
 pub mod Recording
 pub mod Loops
 pub mod Placing
-pub mod Shapes
 pub mod Runs
 pub mod Lending
 pub mod Holding

@@ -4,7 +4,7 @@ use mathlib.Core.List.{List, [], _∷_}
 use Prim.Native.Nat.{ℕ, _+_, _<_, _^_}
 use native.Mathlib.Omega.{arith}
 use lib.ListN.{length}
-use Rattle.rows.specs.Forest.{Rows, Rows.none, size}
+use Rattle.forest.specs.Forest.{Rows, Rows.none, size}
 use Rattle.steps.specs.Joining.{join}
 use Rattle.steps.specs.Bindings.{Binding, Binding.bind}
 use Rattle.output.specs.Output.{emitRows, emitRecords, Done, Recorded, Copied}

@@ -5,9 +5,9 @@ use Prim.Native.Nat.{ℕ, _+_, _*_, _/_, _%_, _≤_, _<_, _^_}
 use native.Mathlib.Omega.{arith}
 use lib.ListN.{length, take, drop, length-append}
 use lib.Seq.{sets, sets-eq, take-at}
-use Rattle.rows.specs.Words.{words}
-use Rattle.rows.specs.Forest.{Rows, Rows.none, Rows.node, size, flat}
-use Rattle.rows.proofs.Accepting.{length-flat}
+use Rattle.names.specs.Words.{words}
+use Rattle.forest.specs.Forest.{Rows, Rows.none, Rows.node, size, flat}
+use Rattle.forest.proofs.Accepting.{length-flat}
 use Rattle.steps.specs.Bindings.{Binding, Binding.bind}
 use Rattle.steps.specs.Outcome.{records}
 use Rattle.output.specs.Output.{le32, put, emitRows, putRecord, emitRecords, Done, Copied}

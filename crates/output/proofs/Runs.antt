@@ -3,7 +3,7 @@ use mathlib.Core.Path.{_≡_, refl, sym, ap, _∙_}
 use mathlib.Core.List.{List}
 use Prim.Native.Nat.{ℕ, _+_}
 use native.Mathlib.Omega.{arith}
-use Rattle.rows.specs.Forest.{Rows, Rows.none, Rows.node, size}
+use Rattle.forest.specs.Forest.{Rows, Rows.none, Rows.node, size}
 use Rattle.output.specs.Output.{put, setEnd, emitRows, Appended, Done}
 use Rattle.output.proofs.Writing.{leaf, nest}
 

@@ -8,7 +8,7 @@ use lib.ListN.{length}
 use lib.Seq.{sets, length-sets}
 use lib.Dec.{leb}
 use borrow.Author.Tests.{le-leb, lt-leb}
-use Rattle.rows.specs.Forest.{Rows, Rows.none, Rows.node, size}
+use Rattle.forest.specs.Forest.{Rows, Rows.none, Rows.node, size}
 use Rattle.steps.specs.Joining.{join}
 use Rattle.output.specs.Output.{le32, withRow, put, setEnd, emitRows, Appended, Done}
 use Rattle.output.proofs.Stores.{words-apart, word-over}

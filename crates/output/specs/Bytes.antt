@@ -1,7 +1,7 @@
 -- Words as bytes, and the words that fit 32 bits. Assumes nothing.
 use mathlib.Core.List.{List, [], _∷_, _++_}
 use Prim.Native.Nat.{ℕ, _<_, _^_}
-use Rattle.rows.specs.Forest.{Rows, Rows.none, Rows.node}
+use Rattle.forest.specs.Forest.{Rows, Rows.none, Rows.node}
 use Rattle.steps.specs.Bindings.{Binding, Binding.bind}
 use Rattle.output.specs.Output.{le32}
 

@@ -1,7 +1,7 @@
 -- What a writer is once it has put a row or a forest, or closed a row. Assumes nothing.
 use Prim.Native.Nat.{ℕ, _+_}
 use denote.Ref.{now, at-last}
-use Rattle.rows.specs.Forest.{Rows, size}
+use Rattle.forest.specs.Forest.{Rows, size}
 use Rattle.output.specs.declared.writer.Writer.{Writer}
 use Rattle.output.specs.Output.{put, setEnd, emitRows}
 

@@ -1,4 +1,3 @@
 pub mod Output
 pub mod Bytes
-pub mod Insertions
 pub mod Held

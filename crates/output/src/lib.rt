@@ -1,6 +1,5 @@
 // Writing rows and records into bytes that the caller lends. A row or record that does not lie
 // whole in the bytes is left out, and the count goes on: over no bytes at all, a walk counts.
-pub mod inserted;
 pub mod writer;
 
 ghost use mathlib.Core.Path.{_≡_};

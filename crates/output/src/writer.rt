@@ -2,7 +2,7 @@
 // It is taken apart here, and what is done to the rows is done by functions on rows and a number.
 ghost use mathlib.Core.Path.{_≡_};
 ghost use Prim.Native.Nat.{_+_, _<_, _^_};
-ghost use Rattle.rows.specs.Forest.{Rows.none, Rows.node};
+ghost use Rattle.forest.specs.Forest.{Rows.none, Rows.node};
 ghost use Rattle.output.specs.Output.{Done};
 ghost use Rattle.output.specs.Held.{rowed, closed};
 use super::append_row;

@@ -2,16 +2,16 @@
 pub mod slots;
 pub mod states;
 
-use rows::kinds::BLOCK;
-use rows::kinds::BODY;
-use rows::kinds::CALL;
-use rows::kinds::CLASS;
-use rows::kinds::EXPR_STMT;
-use rows::kinds::FIELD;
-use rows::kinds::FUNCTION;
-use rows::kinds::METHOD;
-use rows::kinds::PROGRAM;
-use rows::kinds::STATIC_BLOCK;
+use grammar::kinds::BLOCK;
+use grammar::kinds::BODY;
+use grammar::kinds::CALL;
+use grammar::kinds::CLASS;
+use grammar::kinds::EXPR_STMT;
+use grammar::kinds::FIELD;
+use grammar::kinds::FUNCTION;
+use grammar::kinds::METHOD;
+use grammar::kinds::PROGRAM;
+use grammar::kinds::STATIC_BLOCK;
 use slots::BODY_OF;
 use slots::LATE_BODY;
 use slots::WRAPPED;

@@ -2,7 +2,7 @@
 use mathlib.Core.Path.{_≡_, subst}
 use mathlib.Core.Bool.{Bool}
 use Prim.Native.Nat.{ℕ}
-use Rattle.rows.specs.Forest.{Rows}
+use Rattle.forest.specs.Forest.{Rows}
 use Rattle.steps.specs.Mode.{Switches}
 use Rattle.steps.specs.Naming.{Names}
 use Rattle.steps.specs.Acts.{act}

@@ -5,8 +5,8 @@ use mathlib.Core.List.{List}
 use Prim.Native.Nat.{ℕ, _<_}
 use native.Mathlib.Omega.{arith}
 use lib.Dec.{eqb}
-use Rattle.rows.specs.Words.{kindAt, attrAt, nameAt}
-use Rattle.rows.specs.Forest.{Rows}
+use Rattle.names.specs.Words.{kindAt, attrAt, nameAt}
+use Rattle.forest.specs.Forest.{Rows}
 use Rattle.steps.specs.Mode.{Switches, bit, asyncOnly}
 use Rattle.steps.specs.Paths.{Step, Step.along, Step.inParams, Step.inBody, Step.inArrow, Step.inValue, Step.inStatic}
 use Rattle.steps.specs.Slots.{bodyOf, lateBody, callee, dropped}

@@ -6,11 +6,11 @@ use Prim.Native.Nat.{ℕ, zero, suc, _+_, _-_, _<_, _≤_}
 use native.Mathlib.Omega.{arith}
 use borrow.Author.Tests.{ltb-true, ltb-false, ne-eqb, eq-eqb}
 use lib.Dec.{eqb, ltb}
-use Rattle.rows.specs.Kinds.{Super, Function}
-use Rattle.rows.specs.Words.{kindAt, attrAt, nameAt, endAt}
-use Rattle.rows.specs.Forest.{Rows, Rows.none, size, rowsAt}
-use Rattle.rows.specs.Nested.{Nested, Range}
-use Rattle.rows.proofs.Walking.{rows-none, inner, later, rows-step}
+use Rattle.grammar.specs.Kinds.{Super, Function}
+use Rattle.names.specs.Words.{kindAt, attrAt, nameAt, endAt}
+use Rattle.forest.specs.Forest.{Rows, Rows.none, size, rowsAt}
+use Rattle.forest.specs.Nested.{Nested, Range}
+use Rattle.forest.proofs.Walking.{rows-none, inner, later, rows-step}
 use Rattle.steps.specs.Mode.{Switches, bit}
 use Rattle.steps.specs.Naming.{Names}
 use Rattle.steps.specs.Slots.{free, ofMethod, dropped}

@@ -2,7 +2,7 @@
 use mathlib.Core.Path.{_≡_, refl, sym, subst}
 use mathlib.Core.Bool.{Bool, true, false}
 use Prim.Native.Nat.{ℕ, _<_}
-use Rattle.rows.specs.Forest.{Rows}
+use Rattle.forest.specs.Forest.{Rows}
 use Rattle.steps.specs.Mode.{Switches, bit}
 use Rattle.steps.specs.Paths.{Step.along}
 use Rattle.steps.specs.Slots.{free, ofMethod}

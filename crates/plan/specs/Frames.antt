@@ -4,7 +4,7 @@ use mathlib.Core.Bool.{true, _||_}
 use mathlib.Core.List.{List}
 use Prim.Native.Nat.{ℕ, _≤_, _<_}
 use lib.Dec.{eqb}
-use Rattle.rows.specs.Words.{kindAt, attrAt, nameAt}
+use Rattle.names.specs.Words.{kindAt, attrAt, nameAt}
 use Rattle.steps.specs.Super.{firstName, firstInside}
 use Rattle.steps.specs.Acts.{Ctx, Op, Op.row, Op.drop, Op.name, Op.call}
 use Rattle.below.specs.Below.{children}

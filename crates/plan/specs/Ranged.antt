@@ -3,8 +3,8 @@ use Prim.Native.Nat.{ℕ, _*_, _≤_}
 use mathlib.Core.Path.{_≡_}
 use mathlib.Core.List.{List}
 use lib.ListN.{length}
-use Rattle.rows.specs.Words.{words, rowsIn}
-use Rattle.rows.specs.Nested.{Nested, Range}
+use Rattle.names.specs.Words.{words, rowsIn}
+use Rattle.forest.specs.Nested.{Nested, Range}
 
 -- the rows from i to e
 pub record Ranged (rows : List ℕ) (i e : ℕ) : Type 0 where

@@ -3,8 +3,8 @@ use mathlib.Core.Path.{_≡_}
 use mathlib.Core.Bool.{Bool, false, _||_}
 use Prim.Native.Nat.{ℕ}
 use lib.Dec.{eqb}
-use Rattle.rows.specs.Kinds.{ExprStmt, Var, Declarator, Return, Block, Other, Opaque, Params, Class, Object, Sequence, Arguments}
-use Rattle.rows.specs.Forest.{Rows}
+use Rattle.grammar.specs.Kinds.{ExprStmt, Var, Declarator, Return, Block, Other, Opaque, Params, Class, Object, Sequence, Arguments}
+use Rattle.forest.specs.Forest.{Rows}
 use Rattle.steps.specs.Mode.{Switches}
 use Rattle.steps.specs.Naming.{Names}
 use Rattle.steps.specs.Paths.{Step.along}

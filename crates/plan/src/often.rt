@@ -13,7 +13,7 @@ use passes::slots::OF_METHOD;
 ghost use mathlib.Core.Path.{_≡_};
 ghost use mathlib.Core.Bool.{Bool};
 ghost use Prim.Native.Nat.{ℕ, _<_};
-ghost use Rattle.rows.specs.Forest.{Rows};
+ghost use Rattle.forest.specs.Forest.{Rows};
 ghost use Rattle.steps.specs.Mode.{Switches as Target};
 ghost use Rattle.steps.specs.Naming.{Names};
 ghost use Rattle.steps.specs.Acts.{act};

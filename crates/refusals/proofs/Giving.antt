@@ -4,12 +4,12 @@ use mathlib.Core.List.{List}
 use Prim.Native.Nat.{ℕ, _*_}
 use native.Mathlib.Omega.{arith}
 use lib.ListN.{length}
-use Rattle.rows.specs.Words.{words, endAt, rowsIn, namesIn}
-use Rattle.rows.specs.Forest.{Rows, Rows.none, Rows.node, size, flat, table, Table}
+use Rattle.names.specs.Words.{words, endAt, rowsIn, namesIn}
+use Rattle.forest.specs.Forest.{Rows, Rows.none, Rows.node, size, flat, table, Table}
 use Rattle.rows.specs.Sound.{SoundTable}
 use Rattle.rows.specs.Refusals.{checked}
 use Rattle.rows.specs.declared.Checked.the-variants.{Sound}
-use Rattle.rows.proofs.Accepting.{length-flat}
+use Rattle.forest.proofs.Accepting.{length-flat}
 use Rattle.rows.proofs.Soundness.{sound, words-long}
 use Rattle.spelling.specs.Spelling.{GivenNames}
 use Rattle.refusals.specs.Given.{GivenRows}

@@ -7,13 +7,13 @@ use lib.Dec.{eqb}
 use lib.ListN.{getD, replicate, length-replicate}
 use native.Mathlib.Omega.{arith}
 use borrow.Author.Tests.{ne-eqb}
-use Rattle.rows.specs.Kinds.{Program, Super, Call, Function, Field, StaticBlock}
-use Rattle.rows.specs.Words.{words, kindAt, attrAt}
-use Rattle.rows.specs.Told.{toldBy}
-use Rattle.rows.specs.First.{first}
-use Rattle.rows.specs.Forest.{rowsAt}
+use Rattle.grammar.specs.Kinds.{Program, Super, Call, Function, Field, StaticBlock}
+use Rattle.names.specs.Words.{words, kindAt, attrAt}
+use Rattle.forest.specs.Told.{toldBy}
+use Rattle.names.specs.First.{first}
+use Rattle.forest.specs.Forest.{rowsAt}
 use Rattle.rows.proofs.Soundness.{words-long}
-use Rattle.rows.proofs.Telling.{told-zero}
+use Rattle.forest.proofs.Telling.{told-zero}
 use Rattle.steps.specs.Mode.{bit}
 use Rattle.steps.specs.Refusals.{Keeper, Keeper.plain, Keeper.builder, Keeper.method, Keeper.member, methodHolder, allows, seek, sixes, outer}
 use Rattle.steps.proofs.Told.{tells, by-told, seek-as}

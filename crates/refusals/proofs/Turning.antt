@@ -5,14 +5,14 @@ use mathlib.Core.List.{List}
 use Prim.Native.Nat.{ℕ, _+_, _*_, _≤_}
 use native.Mathlib.Omega.{arith}
 use lib.ListN.{length}
-use Rattle.rows.specs.Words.{words, kindAt, nameAt, rowsIn}
-use Rattle.rows.specs.First.{first}
-use Rattle.rows.specs.Forest.{Rows, Rows.none, Rows.node, size, rowsAt, table}
+use Rattle.names.specs.Words.{words, kindAt, nameAt, rowsIn}
+use Rattle.names.specs.First.{first}
+use Rattle.forest.specs.Forest.{Rows, Rows.none, Rows.node, size, rowsAt, table}
 use Rattle.rows.specs.Refusals.{checked}
-use Rattle.rows.specs.declared.Found.{Found}
-use Rattle.rows.specs.declared.Found.the-variants.{At, Nothing}
+use Rattle.names.specs.declared.Found.{Found}
+use Rattle.names.specs.declared.Found.the-variants.{At, Nothing}
 use Rattle.rows.specs.declared.Checked.the-variants.{Sound}
-use Rattle.rows.proofs.Accepting.{length-flat}
+use Rattle.forest.proofs.Accepting.{length-flat}
 use Rattle.rows.proofs.Soundness.{words-long}
 use Rattle.steps.specs.declared.ArrowFunctionConverterMode.{ArrowFunctionConverterMode}
 use Rattle.steps.specs.declared.ArrowFunctionConverterMode.the-variants.{Disabled, Enabled, AsyncOnly}

@@ -10,14 +10,14 @@ use lib.Seq.{drop-drop, getD-drop, getD-set-same, getD-set-other}
 use native.Mathlib.Omega.{arith}
 use native.Mathlib.Nat.{eq-or-lt-of-le}
 use borrow.Author.Tests.{ltb-true, lt-ltb, le-ltb}
-use Rattle.rows.specs.Kinds.{Field}
-use Rattle.rows.specs.Words.{words, kindAt, attrAt, nameAt, endAt}
-use Rattle.rows.specs.First.{first}
-use Rattle.rows.specs.Nested.{Nested}
-use Rattle.rows.specs.declared.Found.{Found}
-use Rattle.rows.specs.declared.Found.the-variants.{At, Nothing}
-use Rattle.rows.specs.Forest.{rowsAt}
-use Rattle.rows.proofs.Bools.{lt-or-ge}
+use Rattle.grammar.specs.Kinds.{Field}
+use Rattle.names.specs.Words.{words, kindAt, attrAt, nameAt, endAt}
+use Rattle.names.specs.First.{first}
+use Rattle.forest.specs.Nested.{Nested}
+use Rattle.names.specs.declared.Found.{Found}
+use Rattle.names.specs.declared.Found.the-variants.{At, Nothing}
+use Rattle.forest.specs.Forest.{rowsAt}
+use Rattle.names.proofs.Bools.{lt-or-ge}
 use Rattle.rows.proofs.Soundness.{words-long}
 use Rattle.steps.specs.Mode.{bit}
 use Rattle.steps.specs.Refusals.{seek, holds, valueOf}

@@ -3,9 +3,9 @@ use Prim.Native.Nat.{ℕ, _*_, _≤_, _<_}
 use mathlib.Core.Path.{_≡_}
 use mathlib.Core.List.{List}
 use lib.ListN.{length, getD}
-use Rattle.rows.specs.Words.{words, endAt}
-use Rattle.rows.specs.Forest.{flat, rowsAt}
-use Rattle.rows.specs.Nested.{Nested}
+use Rattle.names.specs.Words.{words, endAt}
+use Rattle.forest.specs.Forest.{flat, rowsAt}
+use Rattle.forest.specs.Nested.{Nested}
 
 -- the rows are n, nest, and are the words of the forest that is read from them
 pub record GivenRows (rows : List ℕ) (n : ℕ) : Type 0 where

@@ -3,8 +3,8 @@ use Prim.Native.Nat.{ℕ, zero, suc, _+_}
 use mathlib.Core.Bool.{Bool, cond, _&&_, _||_}
 use mathlib.Core.List.{List}
 use lib.Dec.{eqb, ltb}
-use Rattle.rows.specs.Kinds.{Super, Arrow, Field}
-use Rattle.rows.specs.Words.{kindAt, attrAt, endAt}
+use Rattle.grammar.specs.Kinds.{Super, Arrow, Field}
+use Rattle.names.specs.Words.{kindAt, attrAt, endAt}
 use Rattle.steps.specs.Mode.{bit}
 use Rattle.steps.specs.Refusals.{Rule, alone, holds, valueOf}
 

@@ -3,18 +3,18 @@ use Prim.Native.Nat.{ℕ, suc}
 use mathlib.Core.Bool.{Bool, _&&_, _||_}
 use mathlib.Core.List.{List}
 use lib.Dec.{eqb}
-use Rattle.rows.specs.Kinds.{Declarator, Function, Class}
-use Rattle.rows.specs.Names.{isArguments}
-use Rattle.rows.specs.Forest.{Rows}
-use Rattle.rows.specs.declared.Found.{Found}
-use Rattle.rows.specs.declared.Found.the-variants.{At, Nothing}
+use Rattle.grammar.specs.Kinds.{Declarator, Function, Class}
+use Rattle.names.specs.Names.{isArguments}
+use Rattle.forest.specs.Forest.{Rows}
+use Rattle.names.specs.declared.Found.{Found}
+use Rattle.names.specs.declared.Found.the-variants.{At, Nothing}
 use Rattle.steps.specs.Mode.{Switches}
 use Rattle.steps.specs.Naming.{Names}
 use Rattle.steps.specs.Refusals.{Rule, alone, six, seven, eight}
 use Rattle.refusals.specs.declared.Refused.{Refused}
 use Rattle.refusals.specs.declared.Refused.the-variants.{Not, SuperNotAllowed, FieldHolds, NamedArguments}
 
--- Document 01's number for each answer,
+-- The request's number for each answer (docs/FORMAT.md, "What the conversion turns away"),
 abbrev pub numberOf : Refused → ℕ
 numberOf Not = 0
 numberOf (SuperNotAllowed row) = 6

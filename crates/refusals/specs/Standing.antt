@@ -2,7 +2,7 @@
 use Prim.Native.Nat.{ℕ, _+_, _%_}
 use mathlib.Core.Bool.{Bool, true, false, cond, not, _&&_}
 use lib.Dec.{eqb}
-use Rattle.rows.specs.Kinds.{Super}
+use Rattle.grammar.specs.Kinds.{Super}
 use Rattle.steps.specs.Mode.{bit}
 use Rattle.steps.specs.Refusals.{Keeper, Keeper.plain, Keeper.builder, Keeper.method, Keeper.member, Stand, keepOne, keepMore, allows, sixes}
 

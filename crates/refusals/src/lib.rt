@@ -5,11 +5,11 @@ mod standing;
 use firsts::first_arguments;
 use firsts::first_field;
 use firsts::first_super;
-use rows::Found;
+use names::Found;
 use steps::ArrowFunctionConverter;
 ghost use mathlib.Core.Path.{_≡_};
-ghost use Rattle.rows.specs.Words.{rowsIn};
-ghost use Rattle.rows.specs.Forest.{table};
+ghost use Rattle.names.specs.Words.{rowsIn};
+ghost use Rattle.forest.specs.Forest.{table};
 ghost use Rattle.steps.specs.Mode.{Switches, modeOf};
 ghost use Rattle.steps.specs.Outcome.{namesOf};
 ghost use Rattle.spelling.specs.Spelling.{GivenNames};
@@ -25,7 +25,7 @@ pub enum Refused {
 }
 
 impl Refused {
-    // Document 01's number of the answer.
+    // The request's number of the answer.
     pub fn number(self) -> u32
         ensures { λ r. ⌜ r ≡ numberOf self ⌝ }
     {

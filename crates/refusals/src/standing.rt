@@ -1,21 +1,21 @@
 // What a row is told of its owner and of how it stands, for refusal 6: the owner's sort, 4 more for
 // the last child of a Method or of a Property with bit 1, 8 more for the first child of a Call.
-use rows::kinds::CALL;
-use rows::kinds::FIELD;
-use rows::kinds::FUNCTION;
-use rows::kinds::METHOD;
-use rows::kinds::PROGRAM;
-use rows::kinds::PROPERTY;
-use rows::kinds::STATIC_BLOCK;
-use rows::kinds::SUPER;
-use rows::words::cell;
+use grammar::kinds::CALL;
+use grammar::kinds::FIELD;
+use grammar::kinds::FUNCTION;
+use grammar::kinds::METHOD;
+use grammar::kinds::PROGRAM;
+use grammar::kinds::PROPERTY;
+use grammar::kinds::STATIC_BLOCK;
+use grammar::kinds::SUPER;
+use names::words::cell;
 ghost use mathlib.Core.Path.{_≡_};
 ghost use mathlib.Core.Bool.{cond};
 ghost use Prim.Native.Nat.{ℕ, _+_, _*_, _<_, _≤_};
 ghost use lib.ListN.{length, getD};
-ghost use Rattle.rows.specs.Words.{words};
-ghost use Rattle.rows.specs.Faults.{kids};
-ghost use Rattle.rows.specs.Told.{toldIn};
+ghost use Rattle.names.specs.Words.{words};
+ghost use Rattle.forest.specs.Faults.{kids};
+ghost use Rattle.forest.specs.Told.{toldIn};
 ghost use Rattle.steps.specs.Mode.{bit};
 ghost use Rattle.refusals.specs.Standing.{ownerFor, standFor, firstThen, superBad};
 

@@ -8,23 +8,23 @@ use native.Mathlib.Omega.{arith}
 use borrow.Author.Tests.{ltb-true, leb-true, eqb-true}
 use lib.Dec.{eqb, ltb, leb}
 use lib.ListN.{length}
-use Rattle.rows.specs.Words.{words, rowsIn, namesIn}
-use Rattle.rows.specs.Kinds.{Declarator, Ident, Member, Function, Class, Other, Opaque}
-use Rattle.rows.specs.Grammar.{madeRow, namesOne, nameOk}
-use Rattle.rows.specs.Faults.{firstFault}
-use Rattle.rows.specs.Told.{faultAt, firstDeep, lowestFrom, lowestFault}
-use Rattle.rows.specs.Names.{badName, firstBadName}
+use Rattle.names.specs.Words.{words, rowsIn, namesIn}
+use Rattle.grammar.specs.Kinds.{Declarator, Ident, Member, Function, Class, Other, Opaque}
+use Rattle.grammar.specs.Grammar.{madeRow, namesOne, nameOk}
+use Rattle.forest.specs.Faults.{firstFault}
+use Rattle.forest.specs.Told.{faultAt, firstDeep, lowestFrom, lowestFault}
+use Rattle.names.specs.Names.{badName, firstBadName}
 use Rattle.rows.specs.Sound.{GoodSizes}
 use Rattle.rows.specs.Refusals.{placeFor, limited, sizesOk, firstMade, unlessNamed, unlessFault, unlessDeep, unlessMade, checked}
-use Rattle.rows.specs.declared.Found.{Found}
-use Rattle.rows.specs.declared.Found.the-variants.{At, Nothing}
-use Rattle.rows.specs.declared.RowFault.{RowFault}
-use Rattle.rows.specs.declared.RowFault.the-variants.{Fine, Bad}
+use Rattle.names.specs.declared.Found.{Found}
+use Rattle.names.specs.declared.Found.the-variants.{At, Nothing}
+use Rattle.forest.specs.declared.RowFault.{RowFault}
+use Rattle.forest.specs.declared.RowFault.the-variants.{Fine, Bad}
 use Rattle.rows.specs.declared.Checked.{Checked}
 use Rattle.rows.specs.declared.Checked.the-variants.{Sound, Malformed}
-use Rattle.rows.proofs.Bools.{and-left, and-right}
-use Rattle.rows.proofs.Seeking.{first-below}
-use Rattle.rows.proofs.Descent.{first-lowest}
+use Rattle.names.proofs.Bools.{and-left, and-right}
+use Rattle.names.proofs.Seeking.{first-below}
+use Rattle.forest.proofs.Descent.{first-lowest}
 use Rattle.rows.proofs.Ordering.{SizesOk, good-sizes}
 
 below-cases : (ws : List ℕ) (n names f i c r F : ℕ) (b : Bool) → (lowestFrom ws n names f (i + 1) ≡ Bad c r → r < i + 1 + f) → cond b (lowestFrom ws n names f (i + 1)) (Bad F i) ≡ Bad c r → r < i + suc f

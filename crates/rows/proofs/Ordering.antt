@@ -7,35 +7,21 @@ use native.Mathlib.Omega.{arith}
 use borrow.Author.Tests.{ltb-true, leb-true, eqb-true, lt-ltb, le-leb, eq-eqb}
 use lib.ListN.{length}
 use lib.Dec.{eqb, ltb, leb}
-use Rattle.rows.specs.Words.{words, endAt, rowsIn, namesIn}
-use Rattle.rows.specs.Names.{namesFit, firstBadName}
-use Rattle.rows.specs.Faults.{firstFault}
-use Rattle.rows.specs.Told.{firstDeep}
+use Rattle.names.specs.Words.{words, endAt, rowsIn, namesIn}
+use Rattle.names.specs.Names.{namesFit, firstBadName}
+use Rattle.forest.specs.Faults.{firstFault}
+use Rattle.forest.specs.Told.{firstDeep}
 use Rattle.rows.specs.Sound.{GoodSizes}
 use Rattle.rows.specs.Refusals.{limited, sizesOk, firstMade, unlessNamed, unlessFault, unlessDeep, unlessMade, checked}
-use Rattle.rows.specs.declared.Found.{Found}
-use Rattle.rows.specs.declared.RowFault.{RowFault}
-use Rattle.rows.specs.declared.RowFault.the-variants.{Fine}
+use Rattle.names.specs.declared.Found.{Found}
+use Rattle.forest.specs.declared.RowFault.{RowFault}
+use Rattle.forest.specs.declared.RowFault.the-variants.{Fine}
 use Rattle.rows.specs.declared.Checked.{Checked}
 use Rattle.rows.specs.declared.Checked.the-variants.{Sound, Malformed}
-use Rattle.rows.proofs.Bools.{and-left, and-right, and-both}
-use Rattle.rows.proofs.Accepting.{none-faulty}
-use Rattle.rows.proofs.Descent.{first-lowest}
-
--- what 1 leaves of names and text, of so many bytes
-pub record NameSizes (names text : ℕ) : Type 0 where
-  pub whole : names % 8 ≡ 0
-  pub few : names ≤ 32768
-  pub short : text ≤ 65535
-
-pub name-sizes : (names text : ℕ) → namesFit names text ≡ true → NameSizes names text
-name-sizes names text h =
-    let h2 = and-left (eqb (names % 8) 0 && leb names 32768) _ h in
-    record {
-      whole = eqb-true _ _ (and-left (eqb (names % 8) 0) _ h2);
-      few = leb-true _ _ (and-right (eqb (names % 8) 0) _ h2);
-      short = leb-true _ _ (and-right (eqb (names % 8) 0 && leb names 32768) _ h);
-    }
+use Rattle.names.proofs.Bools.{and-left, and-right, and-both}
+use Rattle.names.proofs.GoodNames.{name-sizes}
+use Rattle.forest.proofs.Accepting.{none-faulty}
+use Rattle.forest.proofs.Descent.{first-lowest}
 
 module _ (rowLimit depthLimit : ℕ) (rows names text : List ℕ) where
   abbrev pub SizesOk : Bool → Type 0

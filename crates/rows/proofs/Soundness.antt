@@ -7,31 +7,32 @@ use native.Mathlib.Omega.{arith}
 use borrow.Author.Tests.{ltb-false, le-ltb, eqb-false, ne-eqb, ltb-true, leb-true, not-false}
 use lib.Dec.{eqb, ltb, leb}
 use lib.ListN.{getD, length, take, drop}
-use Rattle.rows.specs.Words.{words, kindAt, attrAt, nameAt, endAt, rowsIn, namesIn}
-use Rattle.rows.specs.Kinds.{Declarator, Ident, Member, Function, Class, Other, Opaque}
-use Rattle.rows.specs.Names.{startOf, lengthOf, badName, firstBadName}
-use Rattle.rows.specs.Utf8.{utf8}
-use Rattle.rows.specs.Grammar.{madeRow, namesOne, nameOk}
-use Rattle.rows.specs.Forest.{Rows, none, node, size, flat, tree, rowsAt, table, Table, DepthWithin, NoRow}
-use Rattle.rows.specs.Nested.{Nested}
-use Rattle.rows.specs.Faults.{firstFault}
-use Rattle.rows.specs.First.{first}
-use Rattle.rows.specs.Told.{depthAt, firstDeep, lowestFault}
-use Rattle.rows.specs.Sound.{GoodName, GoodSizes, SoundTable}
+use Rattle.names.specs.Words.{words, kindAt, attrAt, nameAt, endAt, rowsIn, namesIn}
+use Rattle.grammar.specs.Kinds.{Declarator, Ident, Member, Function, Class, Other, Opaque}
+use Rattle.names.specs.Names.{badName, firstBadName, GoodName}
+use Rattle.names.specs.Utf8.{utf8}
+use Rattle.grammar.specs.Grammar.{madeRow, namesOne, nameOk}
+use Rattle.forest.specs.Forest.{Rows, none, node, size, flat, tree, rowsAt, table, Table, DepthWithin, NoRow}
+use Rattle.forest.specs.Nested.{Nested}
+use Rattle.forest.specs.Faults.{firstFault}
+use Rattle.names.specs.First.{first}
+use Rattle.forest.specs.Told.{depthAt, firstDeep, lowestFault}
+use Rattle.rows.specs.Sound.{GoodSizes, SoundTable}
 use Rattle.rows.specs.Refusals.{limited, sizesOk, firstMade, unlessNamed, unlessFault, unlessDeep, unlessMade, checked}
-use Rattle.rows.specs.declared.Found.{Found}
-use Rattle.rows.specs.declared.Found.the-variants.{At, Nothing}
-use Rattle.rows.specs.declared.RowFault.{RowFault}
-use Rattle.rows.specs.declared.RowFault.the-variants.{Fine, Bad}
+use Rattle.names.specs.declared.Found.{Found}
+use Rattle.names.specs.declared.Found.the-variants.{At, Nothing}
+use Rattle.forest.specs.declared.RowFault.{RowFault}
+use Rattle.forest.specs.declared.RowFault.the-variants.{Fine, Bad}
 use Rattle.rows.specs.declared.Checked.{Checked}
 use Rattle.rows.specs.declared.Checked.the-variants.{Sound, Malformed, BadName, BadRow, TooDeep, MadeBinding}
-use Rattle.rows.proofs.Bools.{and-left, and-right}
-use Rattle.rows.proofs.Seeking.{first-none, none-first}
-use Rattle.rows.proofs.Nesting.{Fit}
-use Rattle.rows.proofs.Accepting.{none-faulty, end0, inside0, shape, accepted, nested, length-flat, flat-one}
-use Rattle.rows.proofs.Completing.{complete}
-use Rattle.rows.proofs.Descent.{first-lowest}
-use Rattle.rows.proofs.Levels.{depth-within, within-depth, rows-no, no-rows}
+use Rattle.names.proofs.Bools.{and-left, and-right}
+use Rattle.names.proofs.Seeking.{first-none, none-first}
+use Rattle.names.proofs.GoodNames.{good-name, name-good}
+use Rattle.forest.proofs.Nesting.{Fit}
+use Rattle.forest.proofs.Accepting.{none-faulty, end0, inside0, shape, accepted, nested, length-flat, flat-one}
+use Rattle.forest.proofs.Completing.{complete}
+use Rattle.forest.proofs.Descent.{first-lowest}
+use Rattle.forest.proofs.Levels.{depth-within, within-depth, rows-no, no-rows}
 use Rattle.rows.proofs.Ordering.{SizesOk, is-checked, good-sizes, sizes-good}
 
 pub words-long : (s : List ℕ) (n : ℕ) → length s ≡ 4 * n → length (words s) ≡ n
@@ -83,35 +84,6 @@ passed rowLimit depthLimit rows names text h =
     let h3 = if-shallow (firstDeep (words rows) (limited depthLimit) (rowsIn rows)) _ (h2 .1) in
     let h5 = if-plain (firstMade (words rows) (rowsIn rows)) _ (h3 .1) in
     record { sizes = h1 .0; named = h4 .0; fine = h2 .0; shallow = h3 .0; plain = h5 .0 }
-
-or-false-left : (a b : Bool) → (a || b) ≡ false → a ≡ false
-or-false-left true b h = h
-or-false-left false b h = refl
-
-or-false-right : (a b : Bool) → (a || b) ≡ false → b ≡ false
-or-false-right true b h = never (cc)
-or-false-right false b h = h
-
-pub good-name : (names text : List ℕ) (k : ℕ) → badName names text k ≡ false → GoodName names text k
-unfolding badName
-good-name names text k h =
-    let s = startOf names k in
-    let l = lengthOf names k in
-    let h2 = or-false-left (ltb (length text) (s + l) || (eqb l 0 || ltb 255 l)) _ h in
-    let h1 = or-false-right (ltb (length text) (s + l)) (eqb l 0 || ltb 255 l) h2 in
-    let zero-not = eqb-false l 0 (or-false-left (eqb l 0) _ h1) in
-    record {
-      within = ltb-false _ _ (or-false-left (ltb (length text) (s + l)) _ h2);
-      some = omega arith;
-      short = ltb-false _ _ (or-false-right (eqb l 0) _ h1);
-      spelled = not-false _ (or-false-right (ltb (length text) (s + l) || (eqb l 0 || ltb 255 l)) _ h);
-    }
-
-pub name-good : (names text : List ℕ) (k : ℕ) → GoodName names text k → badName names text k ≡ false
-unfolding badName
-name-good names text k g =
-    let a = g .some in
-    rw (le-ltb (length text) (startOf names k + lengthOf names k) (g .within), ne-eqb (lengthOf names k) 0 (λ q. omega arith), le-ltb 255 (lengthOf names k) (g .short), g .spelled)
 
 -- a table without a fault, whatever its depth
 module _ (rows : List ℕ) (names : ℕ) (bytes : length rows ≡ 16 * rowsIn rows) (some : 0 < rowsIn rows) (fine : firstFault (words rows) (rowsIn rows) names ≡ Fine) where

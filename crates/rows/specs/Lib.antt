@@ -1,13 +1,2 @@
-pub mod Kinds
-pub mod Words
-pub mod Utf8
-pub mod First
-pub mod Names
-pub mod Grammar
-pub mod Masks
-pub mod Forest
-pub mod Faults
-pub mod Nested
-pub mod Told
 pub mod Refusals
 pub mod Sound

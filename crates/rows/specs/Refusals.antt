@@ -5,20 +5,20 @@ use mathlib.Core.Bool.{Bool, true, false, cond, _&&_}
 use mathlib.Core.List.{List}
 use lib.ListN.{length}
 use lib.Dec.{eqb, ltb, leb}
-use Rattle.rows.specs.Words.{words, kindAt, attrAt, rowsIn, namesIn}
-use Rattle.rows.specs.First.{first}
-use Rattle.rows.specs.Names.{namesFit, firstBadName}
-use Rattle.rows.specs.Grammar.{madeRow}
-use Rattle.rows.specs.Faults.{firstFault}
-use Rattle.rows.specs.Told.{firstDeep}
-use Rattle.rows.specs.declared.Found.{Found}
-use Rattle.rows.specs.declared.Found.the-variants.{At, Nothing}
-use Rattle.rows.specs.declared.RowFault.{RowFault}
-use Rattle.rows.specs.declared.RowFault.the-variants.{Fine, Bad}
+use Rattle.names.specs.Words.{words, kindAt, attrAt, rowsIn, namesIn}
+use Rattle.names.specs.First.{first}
+use Rattle.names.specs.Names.{namesFit, firstBadName}
+use Rattle.grammar.specs.Grammar.{madeRow}
+use Rattle.forest.specs.Faults.{firstFault}
+use Rattle.forest.specs.Told.{firstDeep}
+use Rattle.names.specs.declared.Found.{Found}
+use Rattle.names.specs.declared.Found.the-variants.{At, Nothing}
+use Rattle.forest.specs.declared.RowFault.{RowFault}
+use Rattle.forest.specs.declared.RowFault.the-variants.{Fine, Bad}
 use Rattle.rows.specs.declared.Checked.{Checked}
 use Rattle.rows.specs.declared.Checked.the-variants.{Sound, Malformed, BadName, BadRow, TooDeep, MadeBinding}
 
--- Document 01's number for each answer. Of a bad row the class is known too; the base tells 2 for each.
+-- The request's number for each answer (docs/FORMAT.md, "What is turned away"). Of a bad row the class is known too; the base tells 2 for each.
 abbrev pub numberOf : Checked → ℕ
 numberOf Sound = 0
 numberOf Malformed = 1

@@ -1,23 +1,14 @@
 -- What a table that the checks accept is, for the layers above: they use these facts and need not see how the check works. Assumes nothing.
-use Prim.Native.Nat.{ℕ, _+_, _*_, _/_, _≤_, _<_}
+use Prim.Native.Nat.{ℕ, _*_, _/_, _≤_, _<_}
 use mathlib.Core.Path.{_≡_}
-use mathlib.Core.Bool.{true, false}
 use mathlib.Core.List.{List}
-use lib.ListN.{length, take, drop}
-use Rattle.rows.specs.Words.{words, rowsIn, namesIn}
-use Rattle.rows.specs.Names.{startOf, lengthOf}
-use Rattle.rows.specs.Utf8.{utf8}
-use Rattle.rows.specs.Grammar.{madeRow}
-use Rattle.rows.specs.Forest.{Rows, flat, table, Table, DepthWithin, NoRow}
-use Rattle.rows.specs.Nested.{Nested}
+use lib.ListN.{length}
+use Rattle.names.specs.Words.{words, rowsIn, namesIn}
+use Rattle.names.specs.Names.{GoodName}
+use Rattle.grammar.specs.Grammar.{madeRow}
+use Rattle.forest.specs.Forest.{Rows, flat, table, Table, DepthWithin, NoRow}
+use Rattle.forest.specs.Nested.{Nested}
 use Rattle.rows.specs.Refusals.{limited}
-
--- name k lies in the text, has 1 to 255 bytes, and is UTF-8
-pub record GoodName (names text : List ℕ) (k : ℕ) : Type 0 where
-  pub within : startOf names k + lengthOf names k ≤ length text
-  pub some : 0 < lengthOf names k
-  pub short : lengthOf names k ≤ 255
-  pub spelled : utf8 (take (lengthOf names k) (drop (startOf names k) text)) ≡ true
 
 -- the sizes, which refusal 1 tests
 pub record GoodSizes (rowLimit : ℕ) (rows names text : List ℕ) : Type 0 where

@@ -1,31 +1,15 @@
-// The table of rows: reading words, names and UTF-8, the grammar of the 28 kinds, and the refusals
-// 1, 4, 2, 3 and 5 in that order. Everything that decides whether bytes are a table at all.
-pub mod depth;
-pub mod faults;
-pub mod grammar;
-pub mod kinds;
-pub mod made;
-pub mod names;
-pub mod utf8;
-pub mod words;
+// The table of rows: the refusals 1, 4, 2, 3 and 5 in that order. Everything that decides whether bytes
+// are a table at all.
+mod made;
 
+use forest::RowFault;
+use forest::depth::first_deep;
+use forest::faults::first_fault;
+use names::Found;
 ghost use mathlib.Core.Path.{_≡_};
 ghost use mathlib.Core.Bool.{Bool};
 ghost use Prim.Native.Nat.{ℕ, _≤_};
 ghost use Rattle.rows.specs.Refusals.{numberOf, placeFor, limited, sizesOk, checked};
-
-// The lowest number of which a test holds, where there is one.
-pub enum Found {
-    At(usize),
-    Nothing,
-}
-
-// The lowest row that has a fault, with its class: 1 kind, 2 attr, 3 end, 4 place or number of
-// children, 5 name.
-pub enum RowFault {
-    Fine,
-    Bad { class: u32, row: usize },
-}
 
 // How large a table may be. A limit over 16,384 counts as 16,384.
 pub struct Limits {
@@ -44,7 +28,7 @@ pub enum Checked {
 }
 
 impl Checked {
-    // Document 01's number of the answer.
+    // The request's number of the answer.
     pub fn number(self) -> u32
         ensures { λ r. ⌜ r ≡ numberOf self ⌝ }
     {
@@ -105,11 +89,11 @@ pub fn check(rows: &[u8], names: &[u8], text: &[u8], limits: Limits) -> Checked
     if let Found::At(name) = named {
         return Checked::BadName { name };
     }
-    let fault = faults::first_fault(rows, n, names.len() / 8);
+    let fault = first_fault(rows, n, names.len() / 8);
     if let RowFault::Bad { class, row } = fault {
         return Checked::BadRow { class, row };
     }
-    let deep = depth::first_deep(rows, n, deepest as u16);
+    let deep = first_deep(rows, n, deepest as u16);
     if let Found::At(row) = deep {
         return Checked::TooDeep { row };
     }

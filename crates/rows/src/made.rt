@@ -1,11 +1,11 @@
 // Refusal 5: rows that only a result has.
-use crate::Found;
-use crate::grammar::made_row;
-use crate::words::cell;
+use grammar::made_row;
+use names::Found;
+use names::words::cell;
 ghost use mathlib.Core.Path.{_≡_};
 ghost use Prim.Native.Nat.{ℕ, _*_, _≤_};
 ghost use lib.ListN.{length};
-ghost use Rattle.rows.specs.Words.{words};
+ghost use Rattle.names.specs.Words.{words};
 ghost use Rattle.rows.specs.Refusals.{firstMade};
 
 pub fn first_made(s: &[u8], n: usize) -> Found

@@ -9,10 +9,10 @@ use lib.Dec.{eqb, ltb, leb}
 use lib.ListN.{length, take, drop, getD, length-drop}
 use lib.Seq.{drop-cons, drop-length, length-take-le}
 use borrow.Author.Tests.{ltb-true, leb-true, leb-false, ltb-false, eq-eqb, ne-eqb}
-use Rattle.rows.specs.Words.{words, namesIn}
-use Rattle.rows.specs.Names.{startOf, lengthOf, bytesOf, sameBytes, sameName, argumentsBytes, isArguments}
-use Rattle.rows.specs.Sound.{GoodName}
-use Rattle.rows.proofs.Bools.{and-left, and-right}
+use Rattle.names.specs.Words.{words, namesIn}
+use Rattle.names.specs.Names.{startOf, lengthOf, bytesOf, sameBytes, sameName, argumentsBytes, isArguments}
+use Rattle.names.specs.Names.{GoodName}
+use Rattle.names.proofs.Bools.{and-left, and-right}
 use Rattle.spelling.specs.Spelling.{isName, GivenNames}
 
 pub drop-all : (m : ℕ) (s : List ℕ) → length s ≡ m → drop m s ≡ []

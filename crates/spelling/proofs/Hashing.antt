@@ -9,8 +9,8 @@ use lib.Dec.{eqb}
 use lib.ListN.{length, drop, getD}
 use lib.Seq.{drop-cons}
 use borrow.Author.Tests.{eqb-true}
-use Rattle.rows.specs.Names.{bytesOf, sameBytes, sameName}
-use Rattle.rows.proofs.Bools.{and-left, and-right}
+use Rattle.names.specs.Names.{bytesOf, sameBytes, sameName}
+use Rattle.names.proofs.Bools.{and-left, and-right}
 use Rattle.spelling.specs.Spelling.{isName}
 use Rattle.spelling.specs.Hash.{hashFrom, hashOf}
 use Rattle.spelling.proofs.Bytes.{drop-all, no-bytes}

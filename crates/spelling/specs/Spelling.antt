@@ -3,8 +3,8 @@ use Prim.Native.Nat.{ℕ, _≤_, _<_}
 use mathlib.Core.Bool.{Bool, _&&_}
 use mathlib.Core.List.{List}
 use lib.Dec.{ltb, leb}
-use Rattle.rows.specs.Words.{namesIn}
-use Rattle.rows.specs.Sound.{GoodName}
+use Rattle.names.specs.Words.{namesIn}
+use Rattle.names.specs.Names.{GoodName}
 
 -- "A name is 1.. into pairs (start, length) over a UTF-8 text, 0 for none."
 abbrev pub isName : List ℕ → ℕ → Bool

@@ -1,9 +1,9 @@
 // Names, by their bytes.
-use rows::words::cell;
+use names::words::cell;
 ghost use mathlib.Core.Path.{_≡_};
-ghost use Rattle.rows.specs.Names.{sameBytes, sameName, isArguments};
+ghost use Rattle.names.specs.Names.{sameBytes, sameName, isArguments};
 ghost use Prim.Native.Nat.{_<_};
-ghost use Rattle.rows.specs.Names.{bytesOf};
+ghost use Rattle.names.specs.Names.{bytesOf};
 ghost use Rattle.spelling.specs.Spelling.{isName, GivenNames};
 ghost use Rattle.spelling.specs.Hash.{hashFrom, hashOf};
 

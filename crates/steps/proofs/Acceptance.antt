@@ -7,16 +7,16 @@ use lib.Dec.{leb}
 use lib.ListN.{length}
 use native.Mathlib.Omega.{arith}
 use borrow.Author.Tests.{leb-true, le-leb}
-use Rattle.rows.specs.Words.{words, rowsIn, namesIn}
-use Rattle.rows.specs.Forest.{Rows, Rows.none, Rows.node, size, flat, table}
+use Rattle.names.specs.Words.{words, rowsIn, namesIn}
+use Rattle.forest.specs.Forest.{Rows, Rows.none, Rows.node, size, flat, table}
 use Rattle.rows.specs.Sound.{SoundTable, GoodSizes}
-use Rattle.rows.specs.Names.{sameName, bytesOf, sameBytes}
+use Rattle.names.specs.Names.{sameName, bytesOf, sameBytes}
 use Rattle.rows.specs.Refusals.{checked, limited, numberOf, placeFor}
-use Rattle.rows.specs.declared.Found.{Found}
-use Rattle.rows.specs.declared.Found.the-variants.{At, Nothing}
+use Rattle.names.specs.declared.Found.{Found}
+use Rattle.names.specs.declared.Found.the-variants.{At, Nothing}
 use Rattle.rows.specs.declared.Checked.{Checked}
 use Rattle.rows.specs.declared.Checked.the-variants.{Sound, Malformed, BadName, BadRow, TooDeep, MadeBinding}
-use Rattle.rows.proofs.Accepting.{length-flat}
+use Rattle.forest.proofs.Accepting.{length-flat}
 use Rattle.rows.proofs.Soundness.{sound, words-long}
 use Rattle.steps.specs.Mode.{Switches}
 use Rattle.steps.specs.Naming.{Names, sameAs}

@@ -17,7 +17,7 @@ use Rattle.steps.proofs.Grown.{steps-size}
 use Rattle.steps.specs.Owners.{OwnersKept, Calm, Home.atTop, arrowsOn}
 use Rattle.steps.proofs.WellShaped.{Wf}
 use Rattle.steps.proofs.OwnerRule.{demand}
-use Rattle.rows.specs.Forest.{Rows, Rows.none, Rows.node, size}
+use Rattle.forest.specs.Forest.{Rows, Rows.none, Rows.node, size}
 
 -- What holds of the steps for an accepted table of i under Program, of names up to M.
 pub record Bounded (M : ℕ) (i : Rows) (r : Result) : Type 0 where

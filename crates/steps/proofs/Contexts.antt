@@ -16,7 +16,7 @@ use Rattle.steps.specs.Super.{superYes, superFrame}
 use Rattle.steps.specs.Arguments.{argumentsYes, argumentsFrame}
 use Rattle.steps.specs.Slots.{free, ofMethod, dropped}
 use Rattle.steps.specs.Context.{enter, start, Spot, spot, spotOf, into, leavesC, lateC, actC, collectC, emitC, madeC, stepsC}
-use Rattle.rows.specs.Forest.{Rows, Rows.none, Rows.node, size}
+use Rattle.forest.specs.Forest.{Rows, Rows.none, Rows.node, size}
 
 pub ctx-start : (w : Switches) → ctxOf w [] ≡ start
 unfolding captured thisFrame superYes superFrame argumentsYes argumentsFrame

@@ -21,7 +21,7 @@ use Rattle.steps.specs.Owners.{ranked, count, ownOne, ownMore, Read.this
 use Rattle.steps.proofs.Shape.{at, Usual, newKind, newAttr}
 use Rattle.steps.proofs.Walks.{Ready, ready-in, ready-on, one, more, rowE, insideE, emit-shape}
 use Rattle.steps.proofs.Numbers.{AllThis, top-shape, has, number-nonzero, number-use, number-inj}
-use Rattle.rows.specs.Forest.{Rows, Rows.none, Rows.node, size}
+use Rattle.forest.specs.Forest.{Rows, Rows.none, Rows.node, size}
 
 abbrev wrap : Bool → (Rows → Rows) → Rows → Rows
 wrap y t s = cond y (node 19 0 0 (node 4 0 0 (t none) none) s) (t s)

@@ -15,7 +15,7 @@ use Rattle.steps.specs.Super.{firstName, firstInside, firstSuper, firstA
 use Rattle.steps.specs.ArrowToFunction.{toFunction?}
 use Rattle.steps.specs.Slots.{free, ofMethod, ofTarget, callee, dropped}
 use Rattle.steps.proofs.Records.{Sound, AllSound}
-use Rattle.rows.specs.Forest.{Rows, Rows.none, Rows.node}
+use Rattle.forest.specs.Forest.{Rows, Rows.none, Rows.node}
 
 -- The params that an accessor will have, and what frames of F still owe.
 unfoldable pub due : ℕ → ℕ → ℕ

@@ -17,7 +17,7 @@ use Rattle.steps.specs.Slots.{free, ofMethod, bodyOf, lateBody, ofTarget
 use Rattle.steps.specs.Context.{enter, start, Spot, spot, into, actC, lateC, collectC, madeC}
 use Rattle.steps.proofs.Records.{AllSound, Low, Named, one-known, more-known, met-sound, left-sound}
 use Rattle.steps.proofs.Credit.{owed, phi, with, close-pay, fresh, ownOf, weight, credit, meet-cost, leave-cost, costs, Placed, row-cost, eqb-eq, eqb-no}
-use Rattle.rows.specs.Forest.{Rows, Rows.none, Rows.node, size}
+use Rattle.forest.specs.Forest.{Rows, Rows.none, Rows.node, size}
 use Rattle.steps.proofs.WellShaped.{OneBody, ParamsBody, TargetFirst, WfRow, Wf}
 
 -- What the counting needs of a well-formed row.

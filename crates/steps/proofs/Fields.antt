@@ -9,9 +9,9 @@ use lib.Seq.{drop-at}
 use native.Mathlib.Omega.{arith}
 use native.Mathlib.Nat.{add-zero}
 use borrow.Author.Tests.{lt-ltb, le-ltb}
-use Rattle.rows.specs.Kinds.{Super, Arrow, Field}
-use Rattle.rows.specs.Forest.{Rows, Rows.none, Rows.node, size, flat}
-use Rattle.rows.proofs.Accepting.{length-flat}
+use Rattle.grammar.specs.Kinds.{Super, Arrow, Field}
+use Rattle.forest.specs.Forest.{Rows, Rows.none, Rows.node, size, flat}
+use Rattle.forest.proofs.Accepting.{length-flat}
 use Rattle.steps.specs.Mode.{bit}
 use Rattle.steps.specs.Refusals.{holds, pastFirst, valueOf}
 

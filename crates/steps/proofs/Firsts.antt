@@ -4,7 +4,7 @@ use mathlib.Core.List.{List}
 use Prim.Native.Nat.{ℕ, _+_}
 use mathlib.Core.Bool.{Bool, true, false, cond, _&&_}
 use lib.Dec.{eqb}
-use Rattle.rows.specs.Forest.{Rows, Rows.none, Rows.node}
+use Rattle.forest.specs.Forest.{Rows, Rows.none, Rows.node}
 use Rattle.steps.specs.Mode.{Switches, asyncOnly}
 use Rattle.steps.specs.Super.{firstSuper, firstAccess}
 use Rattle.steps.specs.ArrowToFunction.{toFunction?, dress}

@@ -21,7 +21,7 @@ use Rattle.steps.proofs.Shape.{Dull, at, kinds, Usual, dull-one, dull-m
 use Rattle.steps.proofs.Walks.{Ready, ready-in, ready-on, wf-zero, one, more, rowE, insideE, emit-shape}
 use Rattle.steps.proofs.Numbers.{AllThis, has}
 use Rattle.steps.proofs.Counting.{two, atTopOf, top-declared, dress-declared, ranked-same, inside-count}
-use Rattle.rows.specs.Forest.{Rows, Rows.none, Rows.node, size}
+use Rattle.forest.specs.Forest.{Rows, Rows.none, Rows.node, size}
 
 -- the owner in the result, where no Arrow stands between
 abbrev pub Own : Ctx → ℕ → ℕ → Type 0

@@ -19,7 +19,7 @@ use Rattle.steps.specs.Context.{enter, start, Spot, spot, into, actC, la
 use Rattle.steps.proofs.Credit.{eqb-eq}
 use Rattle.steps.proofs.Fewer.{FitRow, Fit, Bodied, closes-plain, not-function, pick, slot-one, slot-more}
 use Rattle.steps.proofs.Sizes.{supers, vol, upto, upto-all, upto-up, top-size, dress-vol, shut-vol}
-use Rattle.rows.specs.Forest.{Rows, Rows.none, Rows.node, size}
+use Rattle.forest.specs.Forest.{Rows, Rows.none, Rows.node, size}
 use Rattle.steps.proofs.WellShaped.{OneBody, ParamsBody}
 
 bodied-wrapped : (sl : ℕ) → Bodied sl ≡ true → eqb sl wrapped ≡ false

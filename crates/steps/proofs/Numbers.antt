@@ -17,7 +17,7 @@ use Rattle.steps.proofs.Fewer.{and-no, and-left}
 use Rattle.steps.specs.Owners.{among, Read.thisOf, Read.nameOf, Init.thisBy, Init.another, Home, Home.atTop, Home.atParams, Home.atBody, Home.atValue, Home.atStatic, recordAt, useIs1, capturedThis, Paired.done, Paired.alike, Paired.named, arrowsOn}
 use Rattle.steps.proofs.Walks.{Ready, ready-in, ready-on, collect-shape}
 use Rattle.steps.proofs.Shape.{meetE}
-use Rattle.rows.specs.Forest.{Rows, Rows.none, Rows.node, size}
+use Rattle.forest.specs.Forest.{Rows, Rows.none, Rows.node, size}
 
 pub and-right : (x y : Bool) → (x && y) ≡ true → y ≡ true
 and-right true y e = e

@@ -3,7 +3,7 @@ use mathlib.Core.Path.{_≡_, refl, ap, _∙_, sym}
 use Prim.Native.Nat.{ℕ}
 use mathlib.Core.Bool.{Bool, true, false, cond, not, _&&_, _||_, false≢true}
 use lib.Dec.{eqb}
-use Rattle.rows.specs.Forest.{Rows, Rows.node}
+use Rattle.forest.specs.Forest.{Rows, Rows.node}
 use Rattle.steps.specs.Mode.{Switches, bit, asyncOnly}
 use Rattle.steps.specs.Paths.{Step, Step.along, Step.inArrow, Step.inValue}
 use Rattle.steps.specs.Super.{firstSuper, firstAccess, firstName, firstInside}

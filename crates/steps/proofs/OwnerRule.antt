@@ -26,7 +26,7 @@ use Rattle.steps.proofs.Numbers.{AllThis, has, number-use, note-has, co
 use Rattle.steps.proofs.Counting.{two, atTopOf, top-declared, top-count, top-arrows, top-reads, dress-reads, ranked-same, inside-count, count-same, arrows-same}
 use Rattle.steps.proofs.Frames.{Own, dull-own, dull-own', own-one, own-more, framesAt, declared-frames, open-at}
 use Rattle.steps.proofs.Pairing.{paired-append, Below, Off, below-up, below-one, below-more, frames-in, frames-on, frames-off, function-frames, static-frames, low}
-use Rattle.rows.specs.Forest.{Rows, Rows.none, Rows.node, size}
+use Rattle.forest.specs.Forest.{Rows, Rows.none, Rows.node, size}
 
 -- nothing of the table is left out
 no-target : (r : Rows) → madeTarget (λ b. false) r ≡ false

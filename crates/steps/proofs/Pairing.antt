@@ -20,7 +20,7 @@ use Rattle.steps.proofs.Shape.{at}
 use Rattle.steps.proofs.Walks.{wf-zero, one, more}
 use Rattle.steps.proofs.Counting.{atTopOf}
 use Rattle.steps.proofs.Frames.{framesAt, open-at}
-use Rattle.rows.specs.Forest.{Rows, Rows.none, Rows.node, size}
+use Rattle.forest.specs.Forest.{Rows, Rows.none, Rows.node, size}
 
 pub paired-append : {D : ℕ → List Init} {xs ys xs' ys' : List Read} → Paired D xs ys → Paired D xs' ys' → Paired D (xs ++ xs') (ys ++ ys')
 paired-append done t = t

@@ -15,7 +15,7 @@ use Rattle.steps.specs.Super.{firstName, firstInside, firstSuper, firstA
 use Rattle.steps.specs.ArrowToFunction.{toFunction?}
 use Rattle.steps.specs.Slots.{callee, dropped}
 use Rattle.steps.specs.Context.{enter, start, Spot, spot, into, actC, lateC, collectC, madeC}
-use Rattle.rows.specs.Forest.{Rows, Rows.none, Rows.node, size}
+use Rattle.forest.specs.Forest.{Rows, Rows.none, Rows.node, size}
 
 -- The list only grows.
 pub record Grows (bs ds : List Binding) : Type 0 where

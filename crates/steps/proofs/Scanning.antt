@@ -4,7 +4,7 @@ use mathlib.Core.List.{List, [], _∷_}
 use Prim.Native.Nat.{ℕ, _+_}
 use mathlib.Core.Bool.{Bool, true, false, cond, not, _&&_, _||_, false≢true}
 use lib.Dec.{eqb}
-use Rattle.rows.specs.Forest.{Rows, Rows.none, Rows.node}
+use Rattle.forest.specs.Forest.{Rows, Rows.none, Rows.node}
 use Rattle.steps.specs.Super.{firstSuper}
 use Rattle.steps.specs.Joining.{join}
 use Rattle.steps.specs.Naming.{Names}

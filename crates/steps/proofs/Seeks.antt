@@ -7,11 +7,11 @@ use lib.ListN.{length, getD, drop}
 use lib.Seq.{drop-cons}
 use native.Mathlib.Omega.{arith}
 use native.Mathlib.Nat.{add-zero}
-use Rattle.rows.specs.declared.Found.{Found}
-use Rattle.rows.specs.declared.Found.the-variants.{At, Nothing}
-use Rattle.rows.specs.First.{first}
-use Rattle.rows.specs.Words.{kindAt, attrAt, nameAt, endAt}
-use Rattle.rows.specs.Forest.{Rows, Rows.none, Rows.node, size, flat}
+use Rattle.names.specs.declared.Found.{Found}
+use Rattle.names.specs.declared.Found.the-variants.{At, Nothing}
+use Rattle.names.specs.First.{first}
+use Rattle.names.specs.Words.{kindAt, attrAt, nameAt, endAt}
+use Rattle.forest.specs.Forest.{Rows, Rows.none, Rows.node, size, flat}
 use Rattle.steps.specs.Refusals.{orElse, Rule, seek, alone}
 
 pub else-nothing : (f : Found) → orElse f Nothing ≡ f

@@ -18,7 +18,7 @@ use Rattle.steps.specs.Context.{enter, Spot, into}
 use Rattle.steps.proofs.Credit.{eqb-eq}
 use Rattle.steps.proofs.Fewer.{pick}
 use Rattle.steps.specs.Owners.{Read.thisOf, Read.nameOf, Init.thisBy, Init.another, Home.atTop, Home.atParams, Home.atBody, Home.atValue, Home.atStatic, Paired.done, Paired.alike, Paired.named, arrowsOn}
-use Rattle.rows.specs.Forest.{Rows, Rows.none, Rows.node}
+use Rattle.forest.specs.Forest.{Rows, Rows.none, Rows.node}
 
 -- The kinds by number: five of them, and the rest.
 pub record Dull (k : ℕ) : Type 0 where

@@ -5,8 +5,8 @@ use mathlib.Core.Bool.{Bool, true, false, cond, not, _&&_, _||_, true≢false, f
 use lib.Dec.{eqb, ltb, leb}
 use native.Mathlib.Omega.{arith}
 use borrow.Author.Tests.{ltb-true, leb-true, eqb-true, eq-eqb}
-use Rattle.rows.specs.Grammar.{bit0, bit1, listKind, placeOf, placeInFunction, placeInClass, kindOk, attrOk, fits, countOk, nameOk, madeRow}
-use Rattle.rows.specs.Forest.{Rows, Rows.none, Rows.node, size, count, rowOk, WellFormed, Table, NoRow}
+use Rattle.grammar.specs.Grammar.{bit0, bit1, listKind, placeOf, placeInFunction, placeInClass, kindOk, attrOk, fits, countOk, nameOk, madeRow}
+use Rattle.forest.specs.Forest.{Rows, Rows.none, Rows.node, size, count, rowOk, WellFormed, Table, NoRow}
 use Rattle.steps.specs.Acts.{Kind, Kind.this, Kind.super, Kind.ident, Kind.access, Kind.assign, Kind.arrow, Kind.function, Kind.keyed, Kind.field, Kind.static, Kind.target, Kind.other, kindOf}
 use Rattle.steps.proofs.Records.{Named, NamedRow}
 use Rattle.steps.proofs.WellShaped.{Empty, OneBody, ParamsBody, NoThisKind, NoThisFirst, TargetFirst, WfRow, Wf}

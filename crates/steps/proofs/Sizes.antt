@@ -19,7 +19,7 @@ use Rattle.steps.specs.ArrowToFunction.{dress}
 use Rattle.steps.specs.Slots.{wrapped}
 use Rattle.steps.proofs.Credit.{eqb-eq}
 use Rattle.steps.proofs.Fewer.{and-no, and-left}
-use Rattle.rows.specs.Forest.{Rows, Rows.none, Rows.node, size}
+use Rattle.forest.specs.Forest.{Rows, Rows.none, Rows.node, size}
 
 -- Supers outside of Functions and StaticBlocks: each can be followed by one assignment of five rows.
 unfoldable pub supers : Rows → ℕ

@@ -8,16 +8,16 @@ use lib.Seq.{drop-cons}
 use native.Mathlib.Omega.{arith}
 use native.Mathlib.Nat.{add-zero}
 use native.Mathlib.Numerals.{add-one}
-use Rattle.rows.specs.declared.Found.{Found}
-use Rattle.rows.specs.declared.Found.the-variants.{At, Nothing}
-use Rattle.rows.specs.First.{first}
-use Rattle.rows.specs.Words.{kindAt, attrAt, nameAt, endAt}
-use Rattle.rows.specs.Told.{toldBy}
-use Rattle.rows.specs.Nested.{Nested}
-use Rattle.rows.specs.Forest.{Rows, Rows.none, Rows.node, size, flat, tree, rowsAt, down}
-use Rattle.rows.proofs.Nesting.{tree-more, tree-done}
-use Rattle.rows.proofs.Accepting.{length-flat}
-use Rattle.rows.proofs.Down.{down-long, told-down}
+use Rattle.names.specs.declared.Found.{Found}
+use Rattle.names.specs.declared.Found.the-variants.{At, Nothing}
+use Rattle.names.specs.First.{first}
+use Rattle.names.specs.Words.{kindAt, attrAt, nameAt, endAt}
+use Rattle.forest.specs.Told.{toldBy}
+use Rattle.forest.specs.Nested.{Nested}
+use Rattle.forest.specs.Forest.{Rows, Rows.none, Rows.node, size, flat, tree, rowsAt, down}
+use Rattle.forest.proofs.Nesting.{tree-more, tree-done}
+use Rattle.forest.proofs.Accepting.{length-flat}
+use Rattle.forest.proofs.Down.{down-long, told-down}
 use Rattle.steps.specs.Refusals.{orElse, Rule, seek}
 use Rattle.steps.proofs.Seeks.{else-tree, else-cond, drop-all, drop-four, first-same}
 

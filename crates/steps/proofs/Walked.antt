@@ -1,13 +1,13 @@
--- The plots, the further tables and those of docs/DIFFERENCES.md, computed. Assumes nothing.
+-- The plots and the further tables, computed. Assumes nothing.
 use mathlib.Core.Path.{refl}
-use Rattle.rows.specs.Words.{words}
-use Rattle.rows.specs.Utf8.{seqOf, utf8From, utf8}
-use Rattle.rows.specs.First.{first}
-use Rattle.rows.specs.Names.{bytesOf, sameBytes, sameName, argumentsBytes, isArguments, badName, firstBadName}
-use Rattle.rows.specs.Grammar.{placeInClass, placeInFunction, placeOf}
-use Rattle.rows.specs.Forest.{size, flat, tree, rowsAt}
-use Rattle.rows.specs.Faults.{kids, kidsOf, earlyFault, lateFault, faultOf, faultFrom, firstFault}
-use Rattle.rows.specs.Told.{toldIn, toldBy, depthAt, firstDeep}
+use Rattle.names.specs.Words.{words}
+use Rattle.names.specs.Utf8.{seqOf, utf8From, utf8}
+use Rattle.names.specs.First.{first}
+use Rattle.names.specs.Names.{bytesOf, sameBytes, sameName, argumentsBytes, isArguments, badName, firstBadName}
+use Rattle.grammar.specs.Grammar.{placeInClass, placeInFunction, placeOf}
+use Rattle.forest.specs.Forest.{size, flat, tree, rowsAt}
+use Rattle.forest.specs.Faults.{kids, kidsOf, earlyFault, lateFault, faultOf, faultFrom, firstFault}
+use Rattle.forest.specs.Told.{toldIn, toldBy, depthAt, firstDeep}
 use Rattle.rows.specs.Refusals.{firstMade, checked}
 use Rattle.steps.specs.Joining.{join}
 use Rattle.steps.specs.Mode.{bit, enabled, asyncOnly, movedFunction, movedArrow}
@@ -27,7 +27,6 @@ use Rattle.steps.specs.Outcome.{records, within, outcome}
 use Rattle.steps.specs.Tables.{sheet, bytes, pairs, joined}
 use Rattle.steps.specs.Plots.{starred}
 use Rattle.steps.specs.Pins.{pins}
-use Rattle.steps.specs.Differences.{differences}
 use Rattle.steps.specs.Tables.{Held}
 
 -- the ten starred plots, by one statement over their list
@@ -35,12 +34,7 @@ pub starred-held : Held starred
 unfolding words seqOf utf8From utf8 first bytesOf sameBytes sameName argumentsBytes isArguments badName firstBadName placeInClass placeInFunction placeOf size flat tree rowsAt kids kidsOf earlyFault lateFault faultOf faultFrom firstFault toldIn toldBy depthAt firstDeep firstMade checked bit enabled asyncOnly movedFunction movedArrow captured thisFrame superYes superFrame firstSuper firstAccess firstName firstInside argumentsYes argumentsFrame dress sameAs namedArguments kindOf actOf act is numberFrom number note closes paramsOf closed meet leave superCall isDirect isMet scanInner scanNext assignment afterSuper argumentsDecl thisDecl headN tailN paramNumbers accessRow accessor accessorDecls varFirst frameTop top join leaves late actAt collect build emit made steps seek allows sixes holds pastFirst valueOf sevens eights six seven eight records within outcome sheet bytes pairs joined starred pins
 starred-held = (refl, (refl, (refl, (refl, (refl, (refl, (refl, (refl, (refl, (refl, (refl, tt)))))))))))
 
--- the mistakes that document 01 shuts out, and what the plots do not catch
+-- the mistakes that the request shuts out, and what the plots do not catch
 pub pins-held : Held pins
 unfolding words seqOf utf8From utf8 first bytesOf sameBytes sameName argumentsBytes isArguments badName firstBadName placeInClass placeInFunction placeOf size flat tree rowsAt kids kidsOf earlyFault lateFault faultOf faultFrom firstFault toldIn toldBy depthAt firstDeep firstMade checked bit enabled asyncOnly movedFunction movedArrow captured thisFrame superYes superFrame firstSuper firstAccess firstName firstInside argumentsYes argumentsFrame dress sameAs namedArguments kindOf actOf act is numberFrom number note closes paramsOf closed meet leave superCall isDirect isMet scanInner scanNext assignment afterSuper argumentsDecl thisDecl headN tailN paramNumbers accessRow accessor accessorDecls varFirst frameTop top join leaves late actAt collect build emit made steps seek allows sixes holds pastFirst valueOf sevens eights six seven eight records within outcome sheet bytes pairs joined starred pins
 pins-held = (refl, (refl, (refl, (refl, (refl, (refl, (refl, (refl, (refl, (refl, (refl, (refl, (refl, (refl, (refl, (refl, (refl, (refl, (refl, tt)))))))))))))))))))
-
--- the tables of docs/DIFFERENCES.md
-pub differences-held : Held differences
-unfolding words seqOf utf8From utf8 first bytesOf sameBytes sameName argumentsBytes isArguments badName firstBadName placeInClass placeInFunction placeOf size flat tree rowsAt kids kidsOf earlyFault lateFault faultOf faultFrom firstFault toldIn toldBy depthAt firstDeep firstMade checked bit enabled asyncOnly movedFunction movedArrow captured thisFrame superYes superFrame firstSuper firstAccess firstName firstInside argumentsYes argumentsFrame dress sameAs namedArguments kindOf actOf act is numberFrom number note closes paramsOf closed meet leave superCall isDirect isMet scanInner scanNext assignment afterSuper argumentsDecl thisDecl headN tailN paramNumbers accessRow accessor accessorDecls varFirst frameTop top join leaves late actAt collect build emit made steps seek allows sixes holds pastFirst valueOf sevens eights six seven eight records within outcome sheet bytes pairs joined differences
-differences-held = (refl, (refl, (refl, (refl, (refl, (refl, (refl, (refl, (refl, (refl, (refl, (refl, (refl, (refl, (refl, (refl, (refl, (refl, (refl, (refl, (refl, (refl, (refl, (refl, (refl, (refl, (refl, (refl, (refl, (refl, (refl, (refl, (refl, (refl, (refl, (refl, (refl, tt)))))))))))))))))))))))))))))))))))))

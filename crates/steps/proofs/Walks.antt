@@ -19,7 +19,7 @@ use Rattle.steps.proofs.Credit.{eqb-eq}
 use Rattle.steps.specs.Owners.{among, Read.thisOf, Read.nameOf, Init.thisBy, Init.another, Home, Home.atTop, Home.atParams, Home.atBody, Home.atValue, Home.atStatic, ArrowFits, homeOne, homeMore, builder, Fits, Calm, Paired.done, Paired.alike, Paired.named, arrowsOn}
 use Rattle.steps.proofs.WellShaped.{Empty, ParamsBody, NoThisFirst, TargetFirst, WfRow, Wf}
 use Rattle.steps.proofs.Shape.{at, kinds, Usual, dull-op, usual-one, usual-more, newKind, newAttr, newName, meetE, built}
-use Rattle.rows.specs.Forest.{Rows, Rows.none, Rows.node, size}
+use Rattle.forest.specs.Forest.{Rows, Rows.none, Rows.node, size}
 
 pub record Ready (h v : Home) (b : Bool) (q q' : Spot) (r : Rows) : Type 0 where
   pub usual : Usual q

@@ -5,8 +5,8 @@ use Prim.Native.Nat.{ℕ}
 use mathlib.Core.Bool.{Bool, true, false, cond}
 use lib.Dec.{eqb}
 use Rattle.steps.specs.Owners.{among}
-use Rattle.rows.specs.Forest.{Rows, Rows.none, Rows.node}
-use Rattle.rows.specs.Kinds.{Program, Declarator, This, Ident, Assign, Function, Target}
+use Rattle.forest.specs.Forest.{Rows, Rows.none, Rows.node}
+use Rattle.grammar.specs.Kinds.{Program, Declarator, This, Ident, Assign, Function, Target}
 
 -- What acceptance gives.
 unfoldable pub Empty : Rows → Type 0

@@ -2,9 +2,9 @@
 use mathlib.Core.Path.{_≡_}
 use mathlib.Core.List.{List}
 use Prim.Native.Nat.{ℕ}
-use Rattle.rows.specs.Forest.{table}
+use Rattle.forest.specs.Forest.{table}
 use Rattle.rows.specs.Refusals.{checked}
-use Rattle.rows.specs.declared.Found.the-variants.{Nothing}
+use Rattle.names.specs.declared.Found.the-variants.{Nothing}
 use Rattle.rows.specs.declared.Checked.the-variants.{Sound}
 use Rattle.steps.specs.Mode.{Switches}
 use Rattle.steps.specs.Outcome.{namesOf}

@@ -3,8 +3,8 @@ use mathlib.Core.List.{List}
 use Prim.Native.Nat.{ℕ}
 use mathlib.Core.Bool.{Bool, true, false, cond, not, _&&_, _||_}
 use lib.Dec.{eqb}
-use Rattle.rows.specs.Kinds.{This, Super, Ident, Member, Computed, Call, Assign, Arrow, Function, Method, Field, StaticBlock, Property, Target}
-use Rattle.rows.specs.Forest.{Rows}
+use Rattle.grammar.specs.Kinds.{This, Super, Ident, Member, Computed, Call, Assign, Arrow, Function, Method, Field, StaticBlock, Property, Target}
+use Rattle.forest.specs.Forest.{Rows}
 use Rattle.steps.specs.Mode.{Switches, bit, asyncOnly}
 use Rattle.steps.specs.Paths.{Step, Step.along, Step.inParams, Step.inBody, Step.inArrow, Step.inValue, Step.inStatic}
 use Rattle.steps.specs.AncestorRule.{captured, thisFrame}

@@ -2,8 +2,8 @@
 use Prim.Native.Nat.{ℕ}
 use mathlib.Core.Bool.{Bool, true, false, cond, _&&_, _||_}
 use lib.Dec.{eqb}
-use Rattle.rows.specs.Kinds.{ExprStmt, Block, This, Ident, Call, Assign, Function, Body, Class, Method, Field, StaticBlock, Sequence, Target}
-use Rattle.rows.specs.Forest.{Rows, Rows.none, Rows.node}
+use Rattle.grammar.specs.Kinds.{ExprStmt, Block, This, Ident, Call, Assign, Function, Body, Class, Method, Field, StaticBlock, Sequence, Target}
+use Rattle.forest.specs.Forest.{Rows, Rows.none, Rows.node}
 use Rattle.steps.specs.Mode.{bit}
 use Rattle.steps.specs.Super.{firstSuper}
 

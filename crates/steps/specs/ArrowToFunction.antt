@@ -2,8 +2,8 @@
 use Prim.Native.Nat.{ℕ}
 use mathlib.Core.Bool.{Bool, not, cond, _&&_}
 use lib.Dec.{eqb}
-use Rattle.rows.specs.Kinds.{Return, Body}
-use Rattle.rows.specs.Forest.{Rows, Rows.none, Rows.node}
+use Rattle.grammar.specs.Kinds.{Return, Body}
+use Rattle.forest.specs.Forest.{Rows, Rows.none, Rows.node}
 use Rattle.steps.specs.Mode.{Switches, bit, enabled}
 use Rattle.steps.specs.Slots.{wrapped}
 

@@ -4,7 +4,7 @@ use mathlib.Core.List.{List, [], _∷_, _++_}
 use Prim.Native.Nat.{ℕ, _+_}
 use mathlib.Core.Bool.{Bool, cond, _&&_, _||_}
 use lib.Dec.{eqb}
-use Rattle.rows.specs.Kinds.{Program, Body, StaticBlock}
+use Rattle.grammar.specs.Kinds.{Program, Body, StaticBlock}
 use Rattle.steps.specs.Slots.{bodyOf, lateBody}
 use Rattle.steps.specs.Naming.{Names, sameAs}
 use Rattle.steps.specs.Acts.{Ctx, Op, Op.row, Op.drop, Op.name, Op.call}

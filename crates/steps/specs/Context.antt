@@ -3,8 +3,8 @@ use mathlib.Core.List.{List, []}
 use Prim.Native.Nat.{ℕ, _+_}
 use mathlib.Core.Bool.{Bool, true, false, cond, not, _&&_, _||_}
 use lib.Dec.{eqb}
-use Rattle.rows.specs.Kinds.{Super, Function}
-use Rattle.rows.specs.Forest.{Rows, Rows.none, Rows.node, size}
+use Rattle.grammar.specs.Kinds.{Super, Function}
+use Rattle.forest.specs.Forest.{Rows, Rows.none, Rows.node, size}
 use Rattle.steps.specs.Mode.{Switches, bit, enabled, asyncOnly, movedFunction, movedArrow}
 use Rattle.steps.specs.Paths.{Step, Step.along, Step.inParams, Step.inBody, Step.inArrow, Step.inValue, Step.inStatic}
 use Rattle.steps.specs.ArrowToFunction.{dress}

@@ -3,8 +3,8 @@ use mathlib.Core.List.{List, []}
 use Prim.Native.Nat.{ℕ, _+_}
 use mathlib.Core.Bool.{Bool, cond, not, _&&_, _||_}
 use lib.Dec.{eqb}
-use Rattle.rows.specs.Kinds.{Program, ExprStmt, Block, Call, Function, Body, Class, Method, Field, StaticBlock, Sequence}
-use Rattle.rows.specs.Forest.{Rows, Rows.none, Rows.node, size}
+use Rattle.grammar.specs.Kinds.{Program, ExprStmt, Block, Call, Function, Body, Class, Method, Field, StaticBlock, Sequence}
+use Rattle.forest.specs.Forest.{Rows, Rows.none, Rows.node, size}
 use Rattle.steps.specs.Mode.{Switches, bit, enabled, asyncOnly}
 use Rattle.steps.specs.Super.{firstSuper}
 use Rattle.steps.specs.ArrowToFunction.{dress}

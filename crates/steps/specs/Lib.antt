@@ -22,4 +22,3 @@ pub mod Accepted
 pub mod Tables
 pub mod Plots
 pub mod Pins
-pub mod Differences

@@ -2,7 +2,7 @@
 use mathlib.Core.List.{List}
 use Prim.Native.Nat.{ℕ}
 use mathlib.Core.Bool.{Bool}
-use Rattle.rows.specs.Names.{sameName, isArguments}
+use Rattle.names.specs.Names.{sameName, isArguments}
 
 -- the pairs and the text
 pub record Names : Type 0 where

@@ -1,13 +1,13 @@
--- What is answered for every input: the refusals in the document's order, and the result. Assumes nothing.
+-- What is answered for every input: the refusals in the request's order, and the result. Assumes nothing.
 use mathlib.Core.List.{List, [], _∷_}
 use Prim.Native.Nat.{ℕ}
 use mathlib.Core.Bool.{Bool, cond, _&&_}
 use lib.Dec.{leb}
 use lib.ListN.{length}
-use Rattle.rows.specs.Forest.{Rows, size, flat, table}
+use Rattle.forest.specs.Forest.{Rows, size, flat, table}
 use Rattle.rows.specs.Refusals.{checked, numberOf, placeFor}
-use Rattle.rows.specs.declared.Found.{Found}
-use Rattle.rows.specs.declared.Found.the-variants.{At, Nothing}
+use Rattle.names.specs.declared.Found.{Found}
+use Rattle.names.specs.declared.Found.the-variants.{At, Nothing}
 use Rattle.rows.specs.declared.Checked.{Checked}
 use Rattle.rows.specs.declared.Checked.the-variants.{Sound, Malformed, BadName, BadRow, TooDeep, MadeBinding}
 use Rattle.steps.specs.Mode.{Switches}

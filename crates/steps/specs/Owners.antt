@@ -4,8 +4,8 @@ use mathlib.Core.List.{List, [], _∷_, _++_}
 use Prim.Native.Nat.{ℕ, _+_}
 use mathlib.Core.Bool.{Bool, true, false, cond, _&&_, _||_}
 use lib.Dec.{eqb}
-use Rattle.rows.specs.Kinds.{Program, Declarator, This, Super, Ident, Assign, Arrow, Function, Field, StaticBlock, Target}
-use Rattle.rows.specs.Forest.{Rows, Rows.none, Rows.node}
+use Rattle.grammar.specs.Kinds.{Program, Declarator, This, Super, Ident, Assign, Arrow, Function, Field, StaticBlock, Target}
+use Rattle.forest.specs.Forest.{Rows, Rows.none, Rows.node}
 use Rattle.steps.specs.Mode.{Switches, bit}
 use Rattle.steps.specs.Bindings.{Binding, Binding.bind}
 use Rattle.steps.specs.Steps.{Result}

@@ -3,10 +3,10 @@ use mathlib.Core.Path.{_≡_}
 use Prim.Native.Nat.{ℕ, _+_}
 use mathlib.Core.Bool.{Bool, true, false, cond, not, _&&_, _||_}
 use lib.Dec.{eqb}
-use Rattle.rows.specs.declared.Found.{Found}
-use Rattle.rows.specs.declared.Found.the-variants.{At, Nothing}
-use Rattle.rows.specs.Kinds.{Program, Declarator, Super, Call, Arrow, Function, Class, Method, Field, StaticBlock, Property}
-use Rattle.rows.specs.Forest.{Rows, Rows.none, Rows.node, size}
+use Rattle.names.specs.declared.Found.{Found}
+use Rattle.names.specs.declared.Found.the-variants.{At, Nothing}
+use Rattle.grammar.specs.Kinds.{Program, Declarator, Super, Call, Arrow, Function, Class, Method, Field, StaticBlock, Property}
+use Rattle.forest.specs.Forest.{Rows, Rows.none, Rows.node, size}
 use Rattle.steps.specs.Mode.{Switches, bit, enabled, asyncOnly}
 use Rattle.steps.specs.Naming.{Names, namedArguments}
 
@@ -27,11 +27,6 @@ seek R x y o (node k a n i s) =
     orElse (cond (R .bad x k a n i) (At o) Nothing)
     (orElse (seek R (R .one x k a) (R .more x k a) (o + 1) i)
     (seek R y y (o + 1 + size i) s))
-
--- no row is such
-unfoldable pub Never : {C : Type 0} → Rule C → (x y : C) → Rows → Type 0
-Never R x y none = Unit {0}
-Never R x y (node k a n i s) = (R .bad x k a n i ≡ false) × Never R (R .one x k a) (R .more x k a) i × Never R y y s
 
 -- a test that asks nothing from outward
 abbrev pub alone : ((k a n : ℕ) → Rows → Bool) → Rule (Unit {0})

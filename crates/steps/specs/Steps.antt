@@ -1,7 +1,7 @@
 -- The steps as a whole: switches, names and a forest to a forest and a list of records. Assumes nothing.
 use mathlib.Core.List.{List, []}
 use mathlib.Core.Bool.{cond, _||_}
-use Rattle.rows.specs.Forest.{Rows}
+use Rattle.forest.specs.Forest.{Rows}
 use Rattle.steps.specs.Mode.{Switches, enabled, asyncOnly}
 use Rattle.steps.specs.Naming.{Names}
 use Rattle.steps.specs.Bindings.{Binding}

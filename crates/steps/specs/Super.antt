@@ -3,8 +3,8 @@ use mathlib.Core.List.{List, [], _∷_}
 use Prim.Native.Nat.{ℕ}
 use mathlib.Core.Bool.{Bool, true, false, cond, _&&_, _||_}
 use lib.Dec.{eqb}
-use Rattle.rows.specs.Kinds.{Super, Member, Computed}
-use Rattle.rows.specs.Forest.{Rows, Rows.none, Rows.node}
+use Rattle.grammar.specs.Kinds.{Super, Member, Computed}
+use Rattle.forest.specs.Forest.{Rows, Rows.none, Rows.node}
 use Rattle.steps.specs.Mode.{Switches, asyncOnly, movedFunction, movedArrow}
 use Rattle.steps.specs.Paths.{Step, Step.along, Step.inParams, Step.inBody, Step.inArrow, Step.inValue, Step.inStatic}
 

@@ -3,8 +3,8 @@ use mathlib.Core.List.{List, [], _∷_}
 use Prim.Native.Nat.{ℕ, _+_}
 use mathlib.Core.Bool.{Bool, cond, not, _&&_, _||_}
 use lib.Dec.{eqb}
-use Rattle.rows.specs.Kinds.{Program, Var, Declarator, This, Super, Ident, Member, Computed, Assign, Arrow, Function, Params, Arguments, Target}
-use Rattle.rows.specs.Forest.{Rows, Rows.none, Rows.node}
+use Rattle.grammar.specs.Kinds.{Program, Var, Declarator, This, Super, Ident, Member, Computed, Assign, Arrow, Function, Params, Arguments, Target}
+use Rattle.forest.specs.Forest.{Rows, Rows.none, Rows.node}
 use Rattle.steps.specs.Joining.{join}
 use Rattle.steps.specs.Slots.{lateBody}
 use Rattle.steps.specs.Naming.{Names}

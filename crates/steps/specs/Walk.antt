@@ -3,8 +3,8 @@ use mathlib.Core.List.{List, [], _∷_}
 use Prim.Native.Nat.{ℕ, _+_}
 use mathlib.Core.Bool.{Bool, true, false, cond, not, _&&_, _||_}
 use lib.Dec.{eqb}
-use Rattle.rows.specs.Kinds.{This, Super, Ident, Member, Call, Function}
-use Rattle.rows.specs.Forest.{Rows, Rows.none, Rows.node, size}
+use Rattle.grammar.specs.Kinds.{This, Super, Ident, Member, Call, Function}
+use Rattle.forest.specs.Forest.{Rows, Rows.none, Rows.node, size}
 use Rattle.steps.specs.Mode.{Switches, bit}
 use Rattle.steps.specs.Paths.{Step, Step.inParams, Step.inBody}
 use Rattle.steps.specs.AncestorRule.{thisFrame}

@@ -1,18 +1,18 @@
 // The C boundary: what a host links against. A slice is a pointer and a length, words are
 // little-endian. Every input is answered, and a refusal leaves what was lent as it was.
 use acts::switches::Switches;
+use answer::Converted;
 use base_text::Spelling;
-use converter::answer::Converted;
 use converter::convert;
 ghost use mathlib.Core.Path.{_≡_};
 ghost use Prim.Native.Nat.{ℕ, _<_, _^_};
 ghost use lib.ListN.{length};
 ghost use Rattle.base_text.specs.Refusals.{numberOf, placeOf, countOf, baseText, spelled};
-ghost use Rattle.converter.specs.Answer as answers;
-ghost use Rattle.converter.specs.Converting.{outcomeOf, Answers, KeepsOwners};
+ghost use Rattle.answer.specs.Answer as answers;
+ghost use Rattle.answer.specs.Converting.{outcomeOf, Answers, KeepsOwners};
 ghost use Rattle.thawcopper.specs.Entries.{BaseTextAnswered, switchesFrom};
 
-// What base text answers: document 01's number and place, and how many bytes were written.
+// What base text answers: the request's number and place, and how many bytes were written.
 #[repr(C)]
 pub struct Spelled {
     pub refusal: u32,
@@ -30,7 +30,7 @@ fn answered(refusal: u32, place: u32, bytes: u32) -> Spelled
     }
 }
 
-// Document 01's numbers of an answer.
+// The request's numbers of an answer.
 fn numbers_of(answer: Spelling) -> Spelled
     ensures { λ r. ⌜ (r .refusal ≡ numberOf answer) × (r .place ≡ placeOf answer) × (r .bytes ≡ countOf answer) ⌝ }
 {
@@ -60,7 +60,7 @@ pub extern "C" fn thawcopper_base_text(
     numbers_of(base_text::base_text(number, bindings, names, text, out))
 }
 
-// What convert answers: document 01's number and place, and how many rows and bindings were written.
+// What convert answers: the request's number and place, and how many rows and bindings were written.
 #[repr(C)]
 pub struct Answer {
     pub refusal: u32,

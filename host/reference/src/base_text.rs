@@ -1,4 +1,4 @@
-//! Base text: module 2 of document 01, with the Rust's `generate_super_binding_name`.
+//! Base text: module 2 of the request, with the Rust's `generate_super_binding_name`.
 
 use crate::table::{read_names, sizes_of_names, words};
 use crate::{refused, Refused, MOST_RECORDS};

@@ -1,5 +1,5 @@
 //! The conversion: one traversal, with the enter and exit functions and the stacks of the Rust's
-//! `ArrowFunctionConverter`. The function names are the Rust's. Left out is what document 01 leaves to the host or
+//! `ArrowFunctionConverter`. The function names are the Rust's. Left out is what the request leaves to the host or
 //! turns away before: JSX, functions without a body, arrows in a class field's value in AsyncOnly, and bindings called
 //! `arguments`.
 

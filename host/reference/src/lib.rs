@@ -1,9 +1,9 @@
-//! A second reading of document 01 in plain Rust on boxed trees, for comparison only.
+//! A second reading of the request in plain Rust on boxed trees, for comparison only.
 //!
-//! It was written from document 01 and from oxc_transformer's `arrow_function_converter.rs`, and shares no code and no
+//! It was written from the request and from oxc_transformer's `arrow_function_converter.rs`, and shares no code and no
 //! tables with the Rattle side. `table` reads rows and has the refusals 1, 4, 2, 3 and 5, `owners` has 6, 7 and 8, both
-//! from document 01. `converter` follows the Rust: one traversal with enter and exit, and the Rust's stacks. So where
-//! document 01 says "from a This outward" in one sentence, this has what the Rust does, and the two readings check each
+//! from the request. `converter` follows the Rust: one traversal with enter and exit, and the Rust's stacks. So where
+//! the request says "from a This outward" in one sentence, this has what the Rust does, and the two readings check each
 //! other. `tree` is the tree between, `build` makes it from rows and `lay` lays it out again.
 //!
 //! ```text
@@ -30,7 +30,7 @@ pub struct Switches {
     pub async_generator_functions: bool,
 }
 
-/// Document 01's number of a refusal, and its place.
+/// The request's number of a refusal, and its place.
 #[derive(Clone, Copy, Debug, PartialEq, Eq)]
 pub struct Refused {
     pub number: u32,
@@ -48,7 +48,7 @@ pub struct Result01 {
     pub bindings: Vec<[u32; 3]>,
 }
 
-/// The limits of document 01, which the comparison goes round.
+/// The limits of the request, which the comparison goes round.
 pub const MOST_ROWS: usize = 16_384;
 pub const MOST_NAMES: usize = 4_096;
 pub const MOST_TEXT: usize = 65_535;

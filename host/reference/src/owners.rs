@@ -1,4 +1,4 @@
-//! Refusals 6, 7 and 8, read outward as document 01 states them.
+//! Refusals 6, 7 and 8, read outward as the request states them.
 
 use crate::converter::Mode;
 use crate::table::Table;

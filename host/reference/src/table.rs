@@ -1,4 +1,4 @@
-//! Reading a table: the sections "Rows" and "Turned away" of document 01, refusals 1, 4, 2, 3, 5.
+//! Reading a table: the sections "Rows" and "Turned away" of the request, refusals 1, 4, 2, 3, 5.
 
 use crate::{refused, Refused, MOST_DEPTH, MOST_NAMES, MOST_ROWS, MOST_TEXT};
 

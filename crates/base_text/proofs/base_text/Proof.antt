@@ -6,9 +6,9 @@ use mathlib.Core.Bool.{true}
 use native.Mathlib.Omega.{arith}
 use borrow.Author.Tests.{not-true, not-false}
 use lib.ListN.{length}
-use Rattle.rows.specs.Words.{namesIn}
-use Rattle.rows.specs.Names.{firstBadName}
-use Rattle.rows.specs.declared.Found.the-variants.{Nothing}
+use Rattle.names.specs.Words.{namesIn}
+use Rattle.names.specs.Names.{firstBadName}
+use Rattle.names.specs.declared.Found.the-variants.{Nothing}
 use Rattle.base_text.specs.Bindings.{propertyNumber, bindingOk}
 use Rattle.base_text.specs.Refusals.{sizesOk}
 use Rattle.base_text.proofs.Checking.{Sized, sized, bad-name-below, Bound, bound, property-ok}

@@ -1,7 +1,7 @@
 -- `bindings::is_it` meets its contract. Assumes nothing.
 use Prim.Native.Nat.{ℕ}
 use mathlib.Core.Path.{ap, sym, _∙_}
-use Rattle.rows.specs.Names.{sameName}
+use Rattle.names.specs.Names.{sameName}
 use Rattle.steps.specs.Naming.{sameAs}
 use Rattle.bindings.proofs.Finding.{other-frame, other-use, same-frame-use}
 use borrow.Author.Needs.{needs}

@@ -1,10 +1,10 @@
 -- `collect::collect` and `collect::collect_row` meet their contracts. Assumes nothing.
 use mathlib.Core.Path.{refl, ap, sym, subst}
 use native.Mathlib.Omega.{arith}
-use Rattle.rows.specs.Words.{words, rowsIn, kindAt, attrAt, nameAt}
-use Rattle.rows.specs.Forest.{rowsAt}
-use Rattle.rows.specs.Nested.{Range}
-use Rattle.rows.proofs.Walking.{inner}
+use Rattle.names.specs.Words.{words, rowsIn, kindAt, attrAt, nameAt}
+use Rattle.forest.specs.Forest.{rowsAt}
+use Rattle.forest.specs.Nested.{Range}
+use Rattle.forest.proofs.Walking.{inner}
 use Rattle.steps.specs.Outcome.{namesOf}
 use Rattle.steps.specs.Context.{Spot, collectC}
 use Rattle.below.specs.Below.{children}

@@ -2,7 +2,7 @@
 use mathlib.Core.Path.{ap, _∙_}
 use native.Mathlib.Omega.{arith}
 use Rattle.steps.specs.Mode.{switches}
-use Rattle.converter.proofs.Small.{answer-small}
+use Rattle.answer.proofs.Small.{answer-small}
 use Rattle.convert.specs.Output.{answer}
 use Rattle.convert.proofs.Answering.{whole-of, rows-fit, records-fit, told, lent-room, shows, shown-as}
 use borrow.Author.Needs.{needs}

@@ -1,6 +1,6 @@
 -- `convert::refuse` meets its contract. Assumes nothing.
 use native.Mathlib.Omega.{arith}
-use Rattle.rows.specs.Words.{words}
+use Rattle.names.specs.Words.{words}
 use Rattle.convert.proofs.Answering.{shows}
 use borrow.Author.Needs.{needs}
 use Rattle.convert.proofs.refuse.Statement.{statement}

@@ -2,8 +2,8 @@
 use mathlib.Core.Path.{sym, _∙_}
 use Rattle.acts.specs.View.{switchesOf}
 use Rattle.refusals.proofs.Giving.{given}
-use Rattle.converter.proofs.Answering.{sound-zero, passes, unsound, turned}
-use Rattle.converter.proofs.Owning.{promised}
+use Rattle.answer.proofs.Answering.{sound-zero, passes, unsound, turned}
+use Rattle.answer.proofs.Owning.{promised}
 use borrow.Author.Needs.{needs}
 use Rattle.converter.proofs.convert.Statement.{statement}
 use Rattle.converter.proofs.convert.Tie as tie

@@ -43,7 +43,7 @@ use denote.Triple.Walked.{says, needs, Stays, stay-none, stay-none-slice, walkOf
 use denote.Exit.{yes}
 use denote.Signature.{plain, namedLft}
 use denote.Signature.Struct.{inStruct, makes}
-use Rattle.rows.specs.Forest.{Rows, size}
+use Rattle.forest.specs.Forest.{Rows, size}
 use Rattle.output.specs.declared.writer.Writer.{Writer}
 use Rattle.output.specs.Output.{Done}
 use Rattle.output.proofs.writer.Writer as T

@@ -39,7 +39,7 @@ use denote.Triple.Table.{entered, cited}
 use denote.Triple.Walked.{says, needs, Stays, stay-none, stay-none-slice, gave-slice, walkOf, goes-none, goes-none-slice, goes-gave-slice, Walks, ends-at, walked, walk-meets}
 use denote.Exit.{yes}
 use denote.Signature.{plain}
-use Rattle.rows.specs.Forest.{Rows, size}
+use Rattle.forest.specs.Forest.{Rows, size}
 use Rattle.output.specs.declared.writer.Writer.{Writer}
 use Rattle.output.specs.Output.{put as put-row, setEnd, emitRows}
 use Rattle.output.specs.Held.{rowed, closed, grown}

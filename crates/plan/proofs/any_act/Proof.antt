@@ -1,5 +1,5 @@
 -- `plan::any_act` meets its contract. Assumes nothing.
-use Rattle.rows.specs.Words.{words}
+use Rattle.names.specs.Words.{words}
 use Rattle.steps.specs.Outcome.{namesOf}
 use Rattle.steps.specs.Naming.{namedArguments}
 use Rattle.below.specs.Below.{children}

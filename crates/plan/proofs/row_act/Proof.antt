@@ -1,5 +1,5 @@
 -- `plan::row_act` meets its contract. Assumes nothing.
-use Rattle.rows.specs.Words.{words}
+use Rattle.names.specs.Words.{words}
 use Rattle.steps.specs.Outcome.{namesOf}
 use Rattle.below.specs.Below.{children}
 use Rattle.acts.specs.View.{switchesOf}

@@ -5,7 +5,7 @@ use Prim.Native.Nat.{ℕ}
 use native.Mathlib.Omega.{arith}
 use borrow.Author.Tests.{not-true, not-false}
 use borrow.Author.Needs.{needs}
-use Rattle.rows.specs.Names.{sameBytes, argumentsBytes, isArguments}
+use Rattle.names.specs.Names.{sameBytes, argumentsBytes, isArguments}
 use Rattle.spelling.proofs.Bytes.{is-some, good, its-bytes, not-arguments}
 use Rattle.spelling.proofs.is_arguments.Statement.{statement}
 use Rattle.spelling.proofs.is_arguments.Tie as tie

@@ -4,7 +4,7 @@ use Prim.Native.Nat.{_+_}
 use native.Mathlib.Omega.{arith}
 use borrow.Author.Tests.{not-true, not-false}
 use borrow.Author.Needs.{needs}
-use Rattle.rows.specs.Names.{sameName}
+use Rattle.names.specs.Names.{sameName}
 use Rattle.spelling.proofs.Bytes.{is-some, good, its-bytes, none-first, none-second}
 use Rattle.spelling.proofs.same_name.Statement.{statement}
 use Rattle.spelling.proofs.same_name.Tie as tie

@@ -1,6 +1,6 @@
 -- `thawcopper::thawcopper_convert` meets its contract. Assumes nothing.
-use Rattle.converter.proofs.Owning.{renumbered}
-use Rattle.converter.proofs.Small.{answer-small}
+use Rattle.answer.proofs.Owning.{renumbered}
+use Rattle.answer.proofs.Small.{answer-small}
 use borrow.Author.Needs.{needs}
 use Rattle.thawcopper.proofs.thawcopper_convert.Statement.{statement}
 use Rattle.thawcopper.proofs.thawcopper_convert.Tie as tie

@@ -1,5 +1,5 @@
 -- `base_text::bases::base_of` meets its contract. Assumes nothing.
-use Rattle.rows.specs.Names.{argumentsBytes}
+use Rattle.names.specs.Names.{argumentsBytes}
 use native.Mathlib.Omega.{arith}
 use borrow.Author.Tests.{eq-eqb, ne-eqb}
 use Rattle.base_text.specs.Bases.{baseOf, PartOf}

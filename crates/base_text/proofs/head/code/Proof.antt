@@ -1,7 +1,7 @@
 -- `base_text::head::code` meets its contract. Assumes nothing.
 use borrow.Author.Needs.{needs}
 use borrow.Author.Tests.{eq-eqb, ne-eqb}
-use Rattle.base_text.specs.Characters.{codeOf}
+use Rattle.letters.specs.Characters.{codeOf}
 use Rattle.base_text.proofs.head.code.Statement.{statement}
 use Rattle.base_text.proofs.head.code.Tie as tie
 

@@ -3,8 +3,8 @@ use borrow.Author.Needs.{needs}
 use Prim.Native.Nat.{ℕ, _≤_}
 use mathlib.Core.Path.{_≡_, subst, sym}
 use lib.ListN.{length}
-use Rattle.base_text.specs.Characters.{firstCode}
-use Rattle.base_text.specs.Letters.{Capitals}
+use Rattle.letters.specs.Characters.{firstCode}
+use Rattle.letters.specs.Letters.{Capitals}
 use Rattle.base_text.proofs.FirstCharacter.{width-fits}
 use Rattle.base_text.proofs.head.head_of.Statement.{statement}
 use Rattle.base_text.proofs.head.head_of.Tie as tie

@@ -6,9 +6,9 @@ use mathlib.Core.List.{List}
 use native.Mathlib.Omega.{arith}
 use borrow.Author.Tests.{ne-eqb}
 use lib.ListN.{length, take, drop}
-use Rattle.rows.specs.Names.{bytesOf}
-use Rattle.rows.specs.Sound.{GoodName}
-use Rattle.rows.proofs.Soundness.{good-name}
+use Rattle.names.specs.Names.{bytesOf}
+use Rattle.names.specs.Names.{GoodName}
+use Rattle.names.proofs.GoodNames.{good-name}
 use Rattle.base_text.specs.Bases.{basePart, withProperty}
 use Rattle.base_text.specs.Refusals.{namedAnswer, Told}
 use Rattle.base_text.proofs.Pieces.{cut, cut-length}

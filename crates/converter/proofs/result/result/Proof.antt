@@ -3,9 +3,9 @@ use native.Mathlib.Omega.{arith}
 use borrow.Author.Tests.{not-true, not-false}
 use borrow.Author.Needs.{needs}
 use Rattle.steps.specs.Outcome.{namesOf}
-use Rattle.rows.specs.Forest.{table}
+use Rattle.forest.specs.Forest.{table}
 use Rattle.acts.specs.View.{switchesOf}
-use Rattle.converter.proofs.Readying.{flags, steps-off, given-rows}
+use Rattle.walks.proofs.Readying.{flags, steps-off, given-rows}
 use Rattle.converter.proofs.result.result.Statement.{statement}
 use Rattle.converter.proofs.result.result.Tie as tie
 

@@ -1,7 +1,7 @@
 -- The walkers of `emit::walkers` meet their contracts. Assumes nothing.
 use mathlib.Core.Path.{ap, sym, subst, _∙_}
 use native.Mathlib.Omega.{arith}
-use Rattle.rows.specs.Forest.{Rows, Rows.none, Rows.node, size}
+use Rattle.forest.specs.Forest.{Rows, Rows.none, Rows.node, size}
 use Rattle.steps.specs.Outcome.{namesOf}
 use Rattle.steps.specs.Bindings.{number}
 use Rattle.passes.specs.declared.Becomes.{Becomes}
@@ -10,13 +10,13 @@ use Rattle.steps.specs.Context.{Spot}
 use Rattle.plan.specs.Placing.{placeOf}
 use Rattle.plan.specs.Frames.{OpLow}
 use Rattle.output.proofs.Writing.{nest, then, beside, named, leaf, size-one, size-as}
-use Rattle.output.proofs.Shapes.{size-assignment}
+use Rattle.inserted.proofs.Shapes.{size-assignment}
 use Rattle.output.proofs.Loops.{all-left}
-use Rattle.emit.specs.Plans.{listOf, inside}
-use Rattle.emit.specs.Idents.{thisRow}
-use Rattle.emit.specs.Top.{topRows}
-use Rattle.emit.proofs.Written.{top-join, top-size, statement-plain, statement-assigned, statement-least, assigned-size, sequence-rows, sequence-size, kept-inside, row-rows, row-size, drop-rows, drop-size, name-size, captured-rows, call-rows, call-size, call-row-size, called-rows, called-size, expression-first, statement-test, leaf-next, unnot, flipped, as-called}
-use Rattle.emit.proofs.Unchanged.{planned, unchanged-rows, unchanged-inner, no-children}
+use Rattle.emit_plan.specs.Plans.{listOf, inside}
+use Rattle.emit_plan.specs.Idents.{thisRow}
+use Rattle.emit_plan.specs.Top.{topRows}
+use Rattle.emit_plan.proofs.Written.{top-join, top-size, statement-plain, statement-assigned, statement-least, assigned-size, sequence-rows, sequence-size, kept-inside, row-rows, row-size, drop-rows, drop-size, name-size, captured-rows, call-rows, call-size, call-row-size, called-rows, called-size, expression-first, statement-test, leaf-next, unnot, flipped, as-called}
+use Rattle.emit_plan.proofs.Unchanged.{planned, unchanged-rows, unchanged-inner, no-children}
 use Rattle.emit.proofs.Dressing.{body-room, inner-room, dressed-written}
 use Rattle.emit.proofs.Lists.{Turning, row-room, row-fewer, turn-on, turn-less, turned}
 use borrow.Author.Needs.{needs}
@@ -56,21 +56,21 @@ use Rattle.emit.proofs.walkers.+around+class+expression+function+kept+l
 use Rattle.emit.proofs.walkers.undressed.Reads as undressed
 use Rattle.emit.proofs.walkers.undressed.Kinds as undressed-kinds
 use Rattle.emit.proofs.walkers.+around+class+expression+function+kept+list+sequence+statement+transform_call_expression_for_super+transform_member_expression_for_super+undressed.Lts-undressed as undressed-lts
-use Rattle.emit.proofs.bodies.close_body.Reads as close-body-reads
-use Rattle.emit.proofs.bodies.open_body.Reads as open-body-reads
-use Rattle.emit.proofs.identifiers.accessor_identifier.Reads as accessor-identifier-reads
-use Rattle.emit.proofs.identifiers.captured_identifier.Reads as captured-identifier-reads
-use Rattle.emit.proofs.identifiers.get_this_identifier.Reads as get-this-identifier-reads
-use Rattle.emit.proofs.plans.along.Reads as along-reads
-use Rattle.emit.proofs.plans.is_class.Reads as is-class-reads
-use Rattle.emit.proofs.plans.is_function.Reads as is-function-reads
-use Rattle.emit.proofs.plans.is_statement.Reads as is-statement-reads
-use Rattle.emit.proofs.plans.plan_at.Reads as plan-at-reads
-use Rattle.emit.proofs.plans.stays_at.Reads as stays-at-reads
-use Rattle.emit.proofs.plans.words_at.Reads as words-at-reads
-use Rattle.emit.proofs.top.insert_at_the_top.Reads as insert-at-the-top-reads
+use Rattle.emit_plan.proofs.bodies.close_body.Reads as close-body-reads
+use Rattle.emit_plan.proofs.bodies.open_body.Reads as open-body-reads
+use Rattle.emit_plan.proofs.identifiers.accessor_identifier.Reads as accessor-identifier-reads
+use Rattle.emit_plan.proofs.identifiers.captured_identifier.Reads as captured-identifier-reads
+use Rattle.emit_plan.proofs.identifiers.get_this_identifier.Reads as get-this-identifier-reads
+use Rattle.emit_plan.proofs.plans.along.Reads as along-reads
+use Rattle.emit_plan.proofs.plans.is_class.Reads as is-class-reads
+use Rattle.emit_plan.proofs.plans.is_function.Reads as is-function-reads
+use Rattle.emit_plan.proofs.plans.is_statement.Reads as is-statement-reads
+use Rattle.emit_plan.proofs.plans.plan_at.Reads as plan-at-reads
+use Rattle.emit_plan.proofs.plans.stays_at.Reads as stays-at-reads
+use Rattle.emit_plan.proofs.plans.words_at.Reads as words-at-reads
+use Rattle.emit_plan.proofs.top.insert_at_the_top.Reads as insert-at-the-top-reads
 use Rattle.output.proofs.append.Reads as append-reads
-use Rattle.output.proofs.inserted.assignment.Reads as assignment-reads
+use Rattle.inserted.proofs.assignment.Reads as assignment-reads
 use Rattle.output.proofs.patch_end.Reads as patch-end-reads
 use Rattle.plan.proofs.place.Place.spot.Reads as spot-reads
 use Rattle.plan.proofs.place.Place.this_at.Reads as this-at-reads

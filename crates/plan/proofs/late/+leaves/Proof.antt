@@ -1,7 +1,7 @@
 -- `plan::late::leaves` meets its contract. Assumes nothing.
 use mathlib.Core.Path.{refl, _∙_}
 use native.Mathlib.Omega.{arith}
-use Rattle.rows.specs.Words.{words, rowsIn}
+use Rattle.names.specs.Words.{words, rowsIn}
 use Rattle.steps.specs.Outcome.{namesOf}
 use Rattle.acts.specs.View.{switchesOf}
 use Rattle.plan.specs.Placing.{placeOf}

@@ -2,9 +2,9 @@
 use mathlib.Core.Path.{ap, sym, subst, _∙_}
 use Prim.Native.Nat.{_+_}
 use native.Mathlib.Omega.{arith}
-use Rattle.rows.specs.Words.{words, rowsIn}
-use Rattle.rows.specs.Nested.{Range}
-use Rattle.rows.proofs.Walking.{inner}
+use Rattle.names.specs.Words.{words, rowsIn}
+use Rattle.forest.specs.Nested.{Range}
+use Rattle.forest.proofs.Walking.{inner}
 use Rattle.steps.specs.Outcome.{namesOf}
 use Rattle.steps.specs.Slots.{free}
 use Rattle.steps.specs.Acts.{Ctx}

@@ -1,6 +1,6 @@
 -- `plan::late::is_late` meets its contract. Assumes nothing.
 use native.Mathlib.Omega.{arith}
-use Rattle.rows.specs.Words.{words}
+use Rattle.names.specs.Words.{words}
 use Rattle.steps.specs.Outcome.{namesOf}
 use Rattle.below.specs.Below.{children}
 use Rattle.acts.specs.View.{switchesOf}

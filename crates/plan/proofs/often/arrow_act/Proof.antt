@@ -1,6 +1,6 @@
 -- `plan::often::arrow_act` meets its contract. Assumes nothing.
 use mathlib.Core.List.{[]}
-use Rattle.rows.specs.Forest.{Rows.none}
+use Rattle.forest.specs.Forest.{Rows.none}
 use Rattle.steps.specs.Outcome.{namesOf}
 use Rattle.acts.specs.View.{switchesOf, contextOf}
 use Rattle.plan.proofs.Frames.{placeable, handed}

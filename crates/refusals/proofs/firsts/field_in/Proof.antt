@@ -6,7 +6,7 @@ use native.Mathlib.Omega.{arith}
 use borrow.Author.Needs.{needs}
 use lib.ListN.{length, length-set}
 use Rattle.rows.proofs.Soundness.{words-long}
-use Rattle.rows.specs.Words.{words}
+use Rattle.names.specs.Words.{words}
 use Rattle.refusals.specs.Hits.{hit}
 use Rattle.refusals.proofs.Values.{Since, since-start, since-next, since-end, low-next, hit-high, seven-rows}
 use Rattle.refusals.proofs.firsts.field_in.Statement.{statement}

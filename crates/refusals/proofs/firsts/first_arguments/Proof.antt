@@ -2,8 +2,8 @@
 use mathlib.Core.Path.{sym, _∙_}
 use Prim.Native.Nat.{_-_}
 use native.Mathlib.Omega.{arith}
-use Rattle.rows.proofs.Seeking.{Seek, seek-start, seek-next, seek-found, seek-none}
-use Rattle.rows.specs.Words.{words, kindAt, nameAt}
+use Rattle.names.proofs.Seeking.{Seek, seek-start, seek-next, seek-found, seek-none}
+use Rattle.names.specs.Words.{words, kindAt, nameAt}
 use Rattle.refusals.specs.Refused.{bindsArguments}
 use Rattle.refusals.proofs.Turning.{eight-rows}
 use Rattle.refusals.proofs.firsts.first_arguments.Statement.{statement}

@@ -4,10 +4,10 @@ use Prim.Native.Nat.{ℕ, _-_, _≤_}
 use native.Mathlib.Omega.{arith}
 use borrow.Author.Needs.{needs}
 use lib.ListN.{length, getD}
-use Rattle.rows.proofs.Telling.{told-on}
-use Rattle.rows.specs.Told.{toldBy}
-use Rattle.rows.proofs.Seeking.{Seek, seek-start, seek-next, seek-found, seek-none}
-use Rattle.rows.specs.Words.{words, kindAt}
+use Rattle.forest.proofs.Telling.{told-on}
+use Rattle.forest.specs.Told.{toldBy}
+use Rattle.names.proofs.Seeking.{Seek, seek-start, seek-next, seek-found, seek-none}
+use Rattle.names.specs.Words.{words, kindAt}
 use Rattle.refusals.specs.Standing.{superBad, firstThen}
 use Rattle.refusals.proofs.Stands.{clear-told, toldFrom, standOf, bad-same, says, six-rows}
 use Rattle.refusals.proofs.firsts.super_in.Statement.{statement}

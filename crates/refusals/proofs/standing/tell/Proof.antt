@@ -4,9 +4,9 @@ use Prim.Native.Nat.{ℕ, _-_, _+_, _<_}
 use lib.ListN.{length, length-set}
 use native.Mathlib.Omega.{arith}
 use borrow.Author.Tests.{ltb-true}
-use Rattle.rows.proofs.Telling.{Telling, tell-start, tell-next, tell-last, tell-done}
-use Rattle.rows.proofs.Bools.{and-left}
-use Rattle.rows.specs.Words.{words}
+use Rattle.forest.proofs.Telling.{Telling, tell-start, tell-next, tell-last, tell-done}
+use Rattle.names.proofs.Bools.{and-left}
+use Rattle.names.specs.Words.{words}
 use Rattle.refusals.specs.Standing.{firstThen}
 use Rattle.refusals.proofs.Stands.{then-more}
 use Rattle.refusals.proofs.standing.tell.Statement.{statement}

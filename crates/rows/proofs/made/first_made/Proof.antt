@@ -1,11 +1,11 @@
 -- `rows::made::first_made` meets its contract. Assumes nothing.
 use Prim.Native.Nat.{ℕ, _-_, _+_, _*_, _/_, _<_, _≤_}
 use mathlib.Core.Path.{_≡_, refl, sym, ap, subst, _∙_}
-use Rattle.rows.specs.Words.{words, kindAt, attrAt}
-use Rattle.rows.specs.Grammar.{madeRow}
+use Rattle.names.specs.Words.{words, kindAt, attrAt}
+use Rattle.grammar.specs.Grammar.{madeRow}
 use Rattle.rows.specs.Refusals.{firstMade}
-use Rattle.rows.proofs.Seeking.{Seek, seek-start, seek-next, seek-found, seek-none}
-use Rattle.rows.proofs.Visits.{made-same}
+use Rattle.names.proofs.Seeking.{Seek, seek-start, seek-next, seek-found, seek-none}
+use Rattle.forest.proofs.Visits.{made-same}
 use borrow.Author.Needs.{needs}
 use native.Mathlib.Omega.{arith}
 use Rattle.rows.proofs.made.first_made.Statement.{statement}

@@ -1,0 +1,121 @@
+-- Demand 3 of the bytes that are written: whatever answers as it should keeps the owners. Assumes nothing.
+use mathlib.Core.Path.{_≡_, refl, sym, ap, ap₂, subst, _∙_}
+use mathlib.Core.Bool.{Bool, true, false, cond, _&&_}
+use mathlib.Core.List.{List, [], _∷_}
+use Prim.Native.Nat.{ℕ, _+_, _*_, _/_, _%_}
+use native.Mathlib.Omega.{arith}
+use lib.Dec.{leb}
+use lib.ListN.{length, take, drop}
+use lib.Seq.{take-at}
+use Rattle.names.specs.Words.{words}
+use Rattle.forest.specs.Forest.{Rows, size, flat, rowsAt, table}
+use Rattle.rows.specs.Refusals.{checked}
+use Rattle.names.specs.declared.Found.{Found}
+use Rattle.names.specs.declared.Found.the-variants.{At, Nothing}
+use Rattle.rows.specs.declared.Checked.{Checked}
+use Rattle.rows.specs.declared.Checked.the-variants.{Sound, Malformed, BadName, BadRow, TooDeep, MadeBinding}
+use Rattle.forest.proofs.Accepting.{length-flat}
+use Rattle.forest.proofs.ReadBack.{read-back}
+use Rattle.steps.specs.Mode.{Switches}
+use Rattle.steps.specs.Bindings.{Binding, Binding.bind}
+use Rattle.steps.specs.Steps.{Result, steps}
+use Rattle.steps.specs.Refusals.{six, seven, eight}
+use Rattle.steps.specs.Outcome.{Outcome, Outcome.refused, Outcome.converted, namesOf, records, unlessRefused, unlessAt, within, outcome}
+use Rattle.steps.specs.Accepted.{Accepted}
+use Rattle.steps.specs.Owners.{OwnersKept, arrowsOn}
+use Rattle.steps.proofs.Acceptance.{Converted, converts, owner-rule}
+use Rattle.output.specs.Output.{le32}
+use Rattle.output.specs.Bytes.{bytesOf}
+use Rattle.output.proofs.Placing.{length-bytes}
+use Rattle.answer.specs.Converting.{lentRoom, outcomeOf, atFront, Answers, recordsIn, resultIn, KeepsOwners}
+
+-- the bytes of words read back as those words
+words-back : (ws : List ℕ) → words (bytesOf ws) ≡ ws
+unfolding words bytesOf le32
+words-back [] = refl
+words-back (x ∷ ws) =
+    let e : x % 256 + 256 * (x / 256 % 256) + 65536 * (x / 65536 % 256) + 16777216 * (x / 16777216) ≡ x = omega arith in
+    rw (e, words-back ws)
+
+-- the words at the front
+front-words : (ws before after : List ℕ) (n : ℕ) → 4 * length ws ≡ n → after ≡ atFront ws before → words (take n after) ≡ ws
+front-words ws before after n l q =
+    ap (λ (m : List ℕ). words (take n m)) q
+    ∙ ap words (take-at (bytesOf ws) (drop (length (bytesOf ws)) before) n (length-bytes ws ∙ l))
+    ∙ words-back ws
+
+records-back : (bs : List Binding) → recordsIn (records bs) ≡ bs
+unfolding recordsIn records
+records-back [] = refl
+records-back (bind u x f ∷ bs) = rw (records-back bs)
+
+-- no refusal has number 0
+abbrev Numbered : Outcome → Type 0
+Numbered (refused number place) = number ≡ 0 → ⊥
+Numbered (converted rows bindings) = Unit {0}
+
+checked-numbered : (c : Checked) (o : Outcome) → Numbered o → Numbered (unlessRefused c o)
+checked-numbered Sound o h = h
+checked-numbered Malformed o h = λ q. omega arith
+checked-numbered (BadName name) o h = λ q. omega arith
+checked-numbered (BadRow class row) o h = λ q. omega arith
+checked-numbered (TooDeep row) o h = λ q. omega arith
+checked-numbered (MadeBinding row) o h = λ q. omega arith
+
+found-numbered : (number : ℕ) (f : Found) (o : Outcome) → (number ≡ 0 → ⊥) → Numbered o → Numbered (unlessAt number f o)
+found-numbered number (At row) o n h = n
+found-numbered number Nothing o n h = h
+
+room-numbered : (b : Bool) (ws vs : List ℕ) → Numbered (cond b (converted ws vs) (refused 9 0))
+room-numbered true ws vs = tt
+room-numbered false ws vs = λ q. omega arith
+
+module _ (w : Switches) (rows names text outRows outBindings : List ℕ) where
+  outcome-numbered : Numbered (outcomeOf w rows names text outRows outBindings)
+  unfolding outcome within
+  outcome-numbered =
+      checked-numbered (checked 16384 128 rows names text) _
+      (found-numbered 6 (six w (table rows)) _ (λ q. omega arith)
+      (found-numbered 7 (seven w (table rows)) _ (λ q. omega arith)
+      (found-numbered 8 (eight (namesOf names text) w (table rows)) _ (λ q. omega arith)
+      (room-numbered (leb (size (R .rows)) (length outRows / 16) && leb (length (R .bindings)) (length outBindings / 12)) (flat 0 (R .rows)) (records (R .bindings))))))
+    where
+      R : Result
+      R = steps (namesOf names text) w (table rows)
+
+  module _ (number place n m : ℕ) (outRows′ outBindings′ : List ℕ) where
+    -- what stands at the front reads back as the result
+    read-result : (ws bs : List ℕ) → outcomeOf w rows names text outRows outBindings ≡ converted ws bs → Answers (converted ws bs) number place n m outRows outRows′ outBindings outBindings′
+        → resultIn n m outRows′ outBindings′ ≡ steps (namesOf names text) w (table rows)
+    read-result ws bs q a =
+        let C : Converted 16384 128 w rows names text (lentRoom outRows outBindings) ws bs = converts 16384 128 w rows names text (lentRoom outRows outBindings) ws bs q in
+        let R : Result = steps (namesOf names text) w (table rows) in
+        let u : words (take (16 * n) outRows′) ≡ flat 0 (R .rows) = front-words ws outRows outRows′ (16 * n) (omega (arith, a .counted)) (a .rows-written) ∙ C .rows-are in
+        let v : words (take (12 * m) outBindings′) ≡ records (R .bindings) = front-words bs outBindings outBindings′ (12 * m) (omega (arith, a .listed)) (a .bindings-written) ∙ C .bindings-are in
+        let s : n ≡ size (R .rows) = omega (arith, a .counted, ap length (C .rows-are), length-flat 0 (R .rows)) in
+        ap₂ (λ (x : Rows) (y : List Binding). record { rows = x; bindings = y })
+        (ap (λ (x : List ℕ). rowsAt x 0 n) u ∙ ap (rowsAt (flat 0 (R .rows)) 0) s ∙ read-back (R .rows))
+        (ap recordsIn v ∙ records-back (R .bindings))
+
+    keeps-at : (o : Outcome) → outcomeOf w rows names text outRows outBindings ≡ o → Numbered o → Answers o number place n m outRows outRows′ outBindings outBindings′
+        → KeepsOwners w rows number n m outRows′ outBindings′
+    keeps-at (refused k p) q z a = λ e h calm. absurd (z (sym (a .numbered) ∙ h))
+    keeps-at (converted ws bs) q z a = λ e h calm.
+        let C : Converted 16384 128 w rows names text (lentRoom outRows outBindings) ws bs = converts 16384 128 w rows names text (lentRoom outRows outBindings) ws bs q in
+        let A : Accepted 16384 128 arrowsOn rows names text = subst (λ (x : Switches). Accepted 16384 128 x rows names text) e (C .accepted) in
+        let r : resultIn n m outRows′ outBindings′ ≡ steps (namesOf names text) arrowsOn (table rows) = read-result ws bs q a ∙ ap (λ (x : Switches). steps (namesOf names text) x (table rows)) e in
+        subst (λ (x : Result). OwnersKept (table rows) x) (sym r) (owner-rule 16384 128 rows names text A calm)
+
+    -- demand 3 follows from the answer
+    pub keeps-owners : Answers (outcomeOf w rows names text outRows outBindings) number place n m outRows outRows′ outBindings outBindings′
+        → KeepsOwners w rows number n m outRows′ outBindings′
+    keeps-owners a = keeps-at (outcomeOf w rows names text outRows outBindings) refl outcome-numbered a
+
+    pub promised : Answers (outcomeOf w rows names text outRows outBindings) number place n m outRows outRows′ outBindings outBindings′
+        → Answers (outcomeOf w rows names text outRows outBindings) number place n m outRows outRows′ outBindings outBindings′ × KeepsOwners w rows number n m outRows′ outBindings′
+    promised a = (a, keeps-owners a)
+
+    -- the same in other numbers that are equal
+    pub renumbered : (number′ place′ n′ m′ : ℕ) → number′ ≡ number → place′ ≡ place → n′ ≡ n → m′ ≡ m → Answers (outcomeOf w rows names text outRows outBindings) number place n m outRows outRows′ outBindings outBindings′
+        → Answers (outcomeOf w rows names text outRows outBindings) number′ place′ n′ m′ outRows outRows′ outBindings outBindings′ × KeepsOwners w rows number′ n′ m′ outRows′ outBindings′
+    renumbered number′ place′ n′ m′ a b c d h = rw (a, b, c, d) (promised h)

@@ -1,0 +1,4 @@
+pub mod Formed
+pub mod Planning
+pub mod Written
+pub mod Unchanged

@@ -1,0 +1,13 @@
+pub mod Children
+pub mod Telling
+pub mod Visits
+pub mod Slices
+pub mod Marks
+pub mod Nesting
+pub mod Walking
+pub mod Accepting
+pub mod Descent
+pub mod Completing
+pub mod Down
+pub mod Levels
+pub mod ReadBack

@@ -1,0 +1,4 @@
+pub mod Forest
+pub mod Faults
+pub mod Nested
+pub mod Told

@@ -1,0 +1,83 @@
+-- `letters::capital_of` meets its contract. Assumes nothing.
+use borrow.Author.Needs.{needs}
+use native.Mathlib.Omega.{arith}
+use Rattle.letters.proofs.Casing.{ascii, latin, cyrillic, between, beyond}
+use Rattle.letters.proofs.capital_of.Statement.{statement}
+use Rattle.letters.proofs.capital_of.Tie as tie
+
+cast-flip : tie.Need-cast-flip
+cast-flip c = search needs
+
+flip-requires : tie.Need-flip-requires
+flip-requires c κs = search needs
+
+returns : tie.Need-returns
+returns c = ascii _ _ (omega arith) (c .flip .ensures)
+
+cast-entry : tie.Need-cast-entry
+cast-entry c = search needs
+
+entry-requires : tie.Need-entry-requires
+entry-requires c κs = search needs
+
+cast-t10 : tie.Need-cast-t10
+cast-t10 c = search needs
+
+cast-t12 : tie.Need-cast-t12
+cast-t12 c = search needs
+
+returns-2 : tie.Need-returns-2
+returns-2 c = latin _ _ _ (omega arith) (omega arith) (c .entry .ensures)
+
+unknown-requires : tie.Need-unknown-requires
+unknown-requires c κs = search needs
+
+returns-3 : tie.Need-returns-3
+returns-3 c = let u = c .unknown .ensures in rw (u .0, u .1, u .2) (between _ (omega arith) (omega arith))
+
+sub-entry : tie.Need-sub-entry
+sub-entry c = search needs
+
+cast-entry-2 : tie.Need-cast-entry-2
+cast-entry-2 c = search needs
+
+entry-requires-2 : tie.Need-entry-requires-2
+entry-requires-2 c κs = search needs
+
+cast-t16 : tie.Need-cast-t16
+cast-t16 c = search needs
+
+cast-t18 : tie.Need-cast-t18
+cast-t18 c = search needs
+
+returns-4 : tie.Need-returns-4
+returns-4 c = cyrillic _ _ _ (omega arith) (omega arith) (c .entry2 .ensures)
+
+unknown-requires-2 : tie.Need-unknown-requires-2
+unknown-requires-2 c κs = search needs
+
+returns-5 : tie.Need-returns-5
+returns-5 c = let u = c .unknown2 .ensures in rw (u .0, u .1, u .2) (beyond _ (omega arith))
+
+pub capital-of-spec : {M : Type 1} → statement M
+capital-of-spec =
+    tie.close
+    (tie.spec
+    cast-flip
+    flip-requires
+    returns
+    cast-entry
+    entry-requires
+    cast-t10
+    cast-t12
+    returns-2
+    unknown-requires
+    returns-3
+    sub-entry
+    cast-entry-2
+    entry-requires-2
+    cast-t16
+    cast-t18
+    returns-4
+    unknown-requires-2
+    returns-5)

@@ -1,0 +1,5 @@
+pub mod Bools
+pub mod Cells
+pub mod Seeking
+pub mod Reading
+pub mod GoodNames

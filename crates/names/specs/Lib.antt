@@ -1,0 +1,4 @@
+pub mod Words
+pub mod Utf8
+pub mod First
+pub mod Names
