@@ -19,7 +19,7 @@ from conversions import (ASYNC, arguments, arrow, assign, call, computed, constr
 from tables import lay, siblings
 
 SWITCHES, NAMES, ROWS = b"arrow async asyncgen", b"name", b"kind attr name end"
-LONGEST = 131072
+ROOM = 131073                       # a longer text is read in pieces of so many bytes
 FIELD = re.compile(rb"0|[1-9][0-9]{0,9}")
 
 
@@ -67,22 +67,9 @@ def read(text):
     return switches, names, words
 
 
-def read_bounded(text):
-    """A text over LONGEST bytes is faulty at the line in which its byte LONGEST + 1 stands, if not before."""
-    if len(text) <= LONGEST:
-        return read(text)
-    front = text[:LONGEST]
-    last = front.count(b"\n") + 1
-    try:
-        read(front)
-    except Fault as fault:
-        raise Fault(min(fault.line, last)) from None
-    raise Fault(last)
-
-
 def answer(text):
     try:
-        switches, names, words = read_bounded(text)
+        switches, names, words = read(text)
     except Fault as fault:
         return 12, fault.line, 0, 0, [], []
     pairs, start = [], 0
@@ -223,19 +210,46 @@ def faulty():
 
 
 def long_ones():
+    """Texts that are longer than the program's room, or nearly: none is accepted."""
     head = SWITCHES + b"\n1 0 0\nname\n"
-    tail = ROWS + b"\n" + b"\n".join(SHEET) + b"\n"
-    room = LONGEST - len(head) - len(tail)
-    store("as long as is read: 1", head + b"a" * (room - 1) + b"\n" + tail, 1)
-    store("one byte longer: the last row's line", head + b"a" * room + b"\n" + tail, 12, 10)
-    store("one byte longer, and no newline behind the last row", head + b"a" * (room + 1) + b"\n" + tail[:-1], 12, 10)
-    store("as long as is read, names of one byte", (head + b"a\n" * (room // 2) + tail), 1)
-    store("many names", head + b"a\n" * 200000 + tail, 12, 4 + (LONGEST - len(head)) // 2)
+    rows = b"".join(row + b"\n" for row in SHEET)
+    header = ROWS + b"\n"
+    tail = header + rows
+    for size in [ROOM - 2, ROOM - 1, ROOM, ROOM + 1, 2 * ROOM, 1000000, 50000000]:
+        told = "%d bytes: " % size
+        name = b"a" * (size - len(head) - len(tail) - 1) + b"\n"
+        store(told + "one name", head + name + tail, 1)
+        store(told + "one name, no newline at the end", head + b"a" + name + tail[:-1], 1)
+        store(told + "the first line", b"A" + (head + name + tail)[1:], 12, 1)
+        store(told + "the switches", (head + name + tail).replace(b"1 0 0", b"1 2 0", 1), 12, 2)
+        store(told + "the header of the names", (head + name + tail).replace(b"name", b"Name", 1), 12, 3)
+        store(told + "no header of the rows", head + name + rows + b"a" * len(header), 12, 11)
+        store(told + "the last row", head + name + tail[:-2] + b"x\n", 12, 10)
+        store(told + "a blank line at the end", head + name[1:] + tail + b"\n", 12, 11)
+        store(told + "a row that goes on", head + header + rows[:-1] + b" " * len(name) + b"\n", 12, 9)
+        store(told + "junk behind a faulty row", head + header + b"0 0 0\n" + rows + name, 12, 5)
+        lines = size // 100
+        names = (b"b" * 99 + b"\n") * lines
+        store(told + "many names", head + names + tail, 1)
+        store(told + "many names, the last row", head + names + tail[:-2] + b"x\n", 12, 9 + lines)
+        store(told + "many names, no header of the rows", head + names, 12, 4 + lines)
+    # The end of the sheet on both sides of a piece's end, byte by byte.
+    for shift in range(-3, len(tail) + 3):
+        name = b"a" * (ROOM - len(head) - 1 - shift) + b"\n"
+        told = "%d bytes before the edge: " % shift
+        store(told + "one name", head + name + tail, 1)
+        store(told + "the last row", head + name + tail[:-2] + b"x\n", 12, 10)
+        store(told + "no header of the rows", head + name + rows, 12, 10)
+    wide = b"4294967295 " * 3 + b"4294967295"
+    for row, number, place in [(wide, 1, 0), (wide + b"0", 12, 6), (wide + b" ", 12, 6), (wide + b"x" * 20, 12, 6)]:
+        store("a row of %d bytes" % len(row), head + b"a" * 140000 + b"\n" + header + row, number, place)
+    store("100,000 names and no header of the rows", head + b"a\n" * 100000, 12, 100004)
+    store("names of one byte", head + b"a\n" * 200000 + tail, 1)
     store("one line of a million bytes", b"a" * 1000000, 12, 1)
-    store("one name of a million bytes", head + b"a" * 1000000 + b"\n" + tail, 12, 4)
     store("a million newlines", b"\n" * 1000000, 12, 1)
-    store("a faulty switch before a million bytes", SWITCHES + b"\n2 0 0\n" + b"a\n" * 500000, 12, 2)
+    store("a million newlines behind the header of the names", head + b"\n" * 1000000, 12, 1000004)
     store("a million rows", text_of([]) + b"1 0 0 1\n" * 1000000, 12, 1029)
+    store("1,025 rows behind a long name", text_of(row_lines(siblings(1025)), [b"a" * 140000]), 12, 1030)
     store("a million zero bytes", bytes(1000000), 12, 1)
 
 

@@ -1,2 +1,3 @@
 pub mod Answering
 pub mod Taking
+pub mod Long

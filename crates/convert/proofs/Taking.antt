@@ -37,7 +37,7 @@ fault-small x n r b l t e = subst (Small n) e (t .small)
 pub sheet-small : (x : Read) (n : ℕ) (r : Parsed) (b : Lent) (a c d : Bool) (k i t : ℕ) → Told x n r b → r ≡ Sheet a c d k i t → (k ≤ 1024) × (i ≤ n) × (t ≤ n)
 sheet-small x n r b a c d k i t u e = subst (Small n) e (u .small)
 
-pairs-long : (at : ℕ) (names : List (List ℕ)) → length (pairsFrom at names) ≡ 2 * length names
+pub pairs-long : (at : ℕ) (names : List (List ℕ)) → length (pairsFrom at names) ≡ 2 * length names
 unfolding pairsFrom
 pairs-long at [] = omega arith
 pairs-long at (l ∷ ls) = omega (arith, pairs-long (at + length l) ls)

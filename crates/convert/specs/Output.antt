@@ -1,8 +1,10 @@
 -- What the program prints for each standard input. Assumes nothing.
 use mathlib.Core.Path.{_≡_}
+use mathlib.Core.Bool.{cond}
 use mathlib.Core.List.{List, []}
 use Prim.Native.Nat.{ℕ, _≤_}
 use lib.ListN.{length, take}
+use lib.Dec.{eqb}
 use Rattle.steps.specs.Mode.{Switches}
 use Rattle.steps.specs.Outcome.{Outcome, Room, outcome}
 use Rattle.output.specs.Bytes.{bytesOf}
@@ -30,6 +32,10 @@ answerTo (sheet w names rows) = answer (outcomeFor w (bytesOf rows) (bytesOf (pa
 -- the output for an input
 abbrev pub outputFor : List ℕ → List ℕ
 outputFor input = answerTo (sheetOf input)
+
+-- the output for an input over 131,072 bytes: its first faulty or missing line, or 0 where it is in the form and has too many names or too much text
+abbrev pub answerLong : ℕ → List ℕ
+answerLong line = cond (eqb line 0) (printed 1 0 [] []) (printed 12 line [] [])
 
 -- the first r bytes are the whole text
 pub record Shows (text : List ℕ) (r : ℕ) (out : List ℕ) : Type 0 where

@@ -3,6 +3,11 @@
 use acts::switches::Switches;
 use answer::Converted;
 use converter::convert;
+use form::Form;
+use form::begin;
+use form::faulty_line;
+use form::take_piece;
+use parser::LONGEST;
 use parser::Parsed;
 use parser::parse;
 use printer::print;
@@ -14,7 +19,8 @@ ghost use Rattle.names.specs.Words.{words};
 ghost use Rattle.steps.specs.Mode.{switches};
 ghost use Rattle.answer.specs.Answer.{numberOf, placeOf, rowsOf, bindingsOf};
 ghost use Rattle.printer.specs.Print.{printed, Wrote};
-ghost use Rattle.convert.specs.Output.{answer, outcomeFor, outputFor, Shows};
+ghost use Rattle.form.specs.Form.{told, close, pointOf, Fits};
+ghost use Rattle.convert.specs.Output.{answer, outcomeFor, outputFor, answerLong, Shows};
 
 // Room for the input: one byte more than the longest text that is read to its end, so that a full
 // room is known to be too long.
@@ -97,12 +103,12 @@ fn answer_sheet(
     print_converted(converted, &result, &records, out)
 }
 
-// Refusal 12.
-fn refuse(line: u32, out: &mut [u8]) -> usize
+// A refusal.
+fn turn_away(number: u32, place: u32, out: &mut [u8]) -> usize
     requires { ⌜ 131072 ≤ length (now out) ⌝ }
-    ensures { λ r. ⌜ Shows (printed 12 line [] []) r (now (out .exit)) ⌝ }
+    ensures { λ r. ⌜ Shows (printed number place [] []) r (now (out .exit)) ⌝ }
 {
-    print(12, line, b"", b"", out)
+    print(number, place, b"", b"", out)
 }
 
 // The answer to a text, with room for the parts of a sheet.
@@ -113,12 +119,12 @@ fn answer_with(
     text: &mut [u8],
     out: &mut [u8],
 ) -> usize
-    requires { ⌜ (16384 ≤ length (now rows)) × (1048576 ≤ length (now pairs)) × (131072 ≤ length (now text)) × (131072 ≤ length (now out)) ⌝ }
+    requires { ⌜ (length (now s) ≤ 131072) × (16384 ≤ length (now rows)) × (1048576 ≤ length (now pairs)) × (131072 ≤ length (now text)) × (131072 ≤ length (now out)) ⌝ }
     ensures { λ r. ⌜ Shows (outputFor (now (s .entry))) r (now (out .exit)) ⌝ }
 {
     let parsed = parse(s, rows, pairs, text);
     match parsed {
-        Parsed::Faulty { line } => refuse(line as u32, out),
+        Parsed::Faulty { line } => turn_away(12, line as u32, out),
         Parsed::Sheet {
             arrow,
             async_to_generator,
@@ -138,9 +144,9 @@ fn answer_with(
     }
 }
 
-// The answer to a text.
+// The answer to a text that the room has whole.
 fn answer_text(s: &[u8], out: &mut [u8]) -> usize
-    requires { ⌜ 131072 ≤ length (now out) ⌝ }
+    requires { ⌜ (length (now s) ≤ 131072) × (131072 ≤ length (now out)) ⌝ }
     ensures { λ r. ⌜ Shows (outputFor (now (s .entry))) r (now (out .exit)) ⌝ }
 {
     let mut rows = row_room();
@@ -149,10 +155,61 @@ fn answer_text(s: &[u8], out: &mut [u8]) -> usize
     answer_with(s, &mut rows, &mut pairs, &mut text, out)
 }
 
+// The answer to a longer text, once its last piece is read: 12, or 1 where it is in the form, since it has too
+// many names or too much text (`long-output`).
+fn answer_long(form: Form, front: &[u8], out: &mut [u8]) -> usize
+    requires { ⌜ Fits form (now front) × (form .line + 1 < 2 ^ 32) × (131072 ≤ length (now out)) ⌝ }
+    ensures { λ r. ⌜ Shows (answerLong (told (close (pointOf form (now (front .entry)))))) r (now (out .exit)) ⌝ }
+{
+    let line = faulty_line(form, front);
+    if line == 0 {
+        return turn_away(1, 0, out);
+    }
+    turn_away(12, line as u32, out)
+}
+
+// How many pieces are read of a text at most, so that the number of its last line is a u32: 4 GiB less 100 KB.
+const MOST_PIECES: usize = 32767;
+
+// The answer to a text of which the room has the first piece and is full: piece after piece, to its end or to
+// a faulty line, which no later piece can change (`fault-stays`). Of a text that does not end in so many pieces
+// the line that it has come to is told.
+fn answer_pieces(input: &mut [u8], out: &mut [u8]) -> usize
+    requires { ⌜ (length (now input) ≡ 131073) × (131072 ≤ length (now out)) ⌝ }
+    ensures { λ r. ⌜ r ≤ length (now (out .exit)) ⌝ }
+{
+    let mut front = [0u8; 44];
+    let mut form = take_piece(begin(), &mut front, input);
+    let mut pieces: usize = 1;
+    while pieces < MOST_PIECES {
+        if form.part == 0 {
+            return turn_away(12, form.line as u32, out);
+        }
+        let n = io::read_full(0, input);
+        form = take_piece(form, &mut front, &input[..n]);
+        if n < input.len() {
+            return answer_long(form, &front, out);
+        }
+        pieces += 1;
+    }
+    turn_away(12, form.line as u32, out)
+}
+
+// The answer to the standard input.
+fn answer_input(input: &mut [u8], out: &mut [u8]) -> usize
+    requires { ⌜ (length (now input) ≡ 131073) × (131072 ≤ length (now out)) ⌝ }
+    ensures { λ r. ⌜ r ≤ length (now (out .exit)) ⌝ }
+{
+    let n = io::read_full(0, input);
+    if n <= LONGEST {
+        return answer_text(&input[..n], out);
+    }
+    answer_pieces(input, out)
+}
+
 fn main() {
     let mut input = input_room();
     let mut out = text_room();
-    let n = io::read_full(0, &mut input);
-    let r = answer_text(&input[..n], &mut out);
+    let r = answer_input(&mut input, &mut out);
     io::write_all(1, &out[..r]);
 }

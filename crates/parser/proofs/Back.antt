@@ -6,12 +6,12 @@ use Prim.Native.Nat.{ℕ, zero, suc, _+_, _*_, _-_, _/_, _%_, _≤_, _<_}
 use native.Mathlib.Omega.{arith}
 use lib.ListN.{length, length-append}
 use lib.Dec.{ltb, eqb}
-use borrow.Author.Tests.{le-ltb, ltb-true, ltb-false, eq-eqb, ne-eqb, lt-leb, le-leb}
+use borrow.Author.Tests.{le-ltb, ltb-true, ltb-false, eq-eqb, ne-eqb, lt-leb}
 use Rattle.steps.specs.Mode.{switches}
 use Rattle.fields.specs.Headers.{switchHeader, nameHeader, rowHeader}
 use Rattle.printer.specs.Print.{digits, decimal, line, headed, rowLines}
 use Rattle.fields.specs.Fields.{push, split, lines, fields, rowOf, digitsOf, number, sameBytes, switchesOk}
-use Rattle.parser.specs.Parse.{Read.sheet, rowsFrom, wordsFrom, hasRows, namesIn, afterNames, fromFirst, fromSecond, fromThird, fromFourth, sheetOf, readUpTo}
+use Rattle.parser.specs.Parse.{Read.sheet, rowsFrom, wordsFrom, hasRows, namesIn, afterNames, fromFirst, fromSecond, fromThird, fromFourth, sheetOf}
 use Rattle.parser.specs.Sheet.{bit, nameLines, sheetText, clear, Plain, Whole}
 use Rattle.fields.specs.declared.Number.the-variants.{Value, Bad}
 use Rattle.fields.specs.declared.Row.the-variants.{Words}
@@ -249,10 +249,6 @@ module _ (a b c : Bool) (names : List (List ℕ)) (ws : List ℕ) (p : Plain nam
   second : fromSecond (lines ((bit a ∷ 32 ∷ bit b ∷ 32 ∷ bit c ∷ 10 ∷ []) ++ (headed nameHeader ++ rest (rowLines ws) names))) ≡ sheet (switches a b c) names ws
   second = second-line a b c (headed nameHeader ++ rest (rowLines ws) names) ∙ third
 
-  pub sheet-back : fromFirst (lines (sheetText a b c names ws)) ≡ sheet (switches a b c) names ws
+  pub sheet-back : sheetOf (sheetText a b c names ws) ≡ sheet (switches a b c) names ws
   unfolding fromFirst sheetText sameBytes
   sheet-back = rw (split-clear 10 [] switchHeader ((bit a ∷ 32 ∷ bit b ∷ 32 ∷ bit c ∷ 10 ∷ []) ++ (headed nameHeader ++ rest (rowLines ws) names)) refl) second
-
-  pub reads-sheet-back : length (sheetText a b c names ws) ≤ 131072 → sheetOf (sheetText a b c names ws) ≡ sheet (switches a b c) names ws
-  unfolding readUpTo
-  reads-sheet-back h = rw (le-leb (length (sheetText a b c names ws)) 131072 h) sheet-back

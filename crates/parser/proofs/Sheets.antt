@@ -12,7 +12,7 @@ use Rattle.steps.specs.Mode.{Switches, switches}
 use Rattle.output.specs.Bytes.{bytesOf}
 use Rattle.fields.specs.Headers.{switchHeader, nameHeader}
 use Rattle.fields.specs.Fields.{split, part, fields, lines, rowOf, Next, sameBytes, switchesOk}
-use Rattle.parser.specs.Parse.{Read, Read.faulty, isRow, addRow, rowsFrom, wordsFrom, namesIn, afterNames, switchesIn, withRows, fromFourth, fromThird, fromSecond, fromFirst, RowsRead, SmallLines, Found, Lost, NamesAre, NamesRead, Lent, Lies, Told}
+use Rattle.parser.specs.Parse.{Read, Read.faulty, isRow, addRow, rowsFrom, wordsFrom, namesIn, afterNames, switchesIn, withRows, fromFourth, fromThird, fromSecond, fromFirst, RowsRead, SmallLines, Found, Lost, NamesAre, NamesRead, Lent, Lies, Small, Told}
 use Rattle.fields.specs.declared.Row.{Row}
 use Rattle.fields.specs.declared.Row.the-variants.{Words, Fault}
 use Rattle.parser.specs.declared.Lines.{Lines}
@@ -29,6 +29,14 @@ carry {x} {y} {r} {b} {n} e g = subst (λ (z : Read). Told z n r b) e g
 
 pub fault : {x : Read} {b : Lent} {n : ℕ} (l : ℕ) → faulty l ≡ x → l ≤ n + 1029 → Told x n (Faulty l) b
 fault {x} {b} {n} l e h = carry e (record { answer = refl; small = h })
+
+-- a bound by the length serves for a larger one
+more : (n m : ℕ) (r : Parsed) → n ≤ m → Small n r → Small m r
+more n m (Sheet a b c k i t) h s = (s .0, omega (arith, s .1), omega (arith, s .2))
+more n m (Faulty l) h s = omega arith
+
+pub within : {x : Read} {r : Parsed} {b : Lent} (n m : ℕ) → n ≤ m → Told x n r b → Told x m r b
+within {x} {r} n m h t = record { answer = t .answer; small = more n m r h (t .small) }
 
 -- so many rows have four times as many words
 pub counted : (m k n : ℕ) (ls : List (List ℕ)) → rowsFrom m k ls ≡ Count n → 4 * m + length (wordsFrom m ls) ≡ 4 * n

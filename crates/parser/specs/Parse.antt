@@ -2,8 +2,8 @@
 use mathlib.Core.Path.{_≡_}
 use mathlib.Core.Bool.{Bool, true, false, cond}
 use mathlib.Core.List.{List, [], _∷_, _++_}
-use Prim.Native.Nat.{ℕ, _+_, _*_, _/_, _≤_, _<_, _^_, min}
-use lib.ListN.{length, take, drop, getD}
+use Prim.Native.Nat.{ℕ, _+_, _*_, _/_, _≤_, _<_, _^_}
+use lib.ListN.{length, drop, getD}
 use lib.Seq.{sets}
 use lib.Dec.{leb, eqb}
 use Rattle.steps.specs.Mode.{Switches, switches}
@@ -166,19 +166,6 @@ pub record Room (s rows pairs : List ℕ) : Type 0 where
   pub rows-fit : 16384 ≤ length rows
   pub pairs-fit : 8 * length s ≤ length pairs
 
--- The whole text. It may be longer than a legal sheet can be: then the line in which it goes past `most` bytes is faulty, if none before it is.
-unfoldable pub countOf : ℕ → List ℕ → ℕ
-countOf b [] = 0
-countOf b (c ∷ s) = cond (eqb c b) (1 + countOf b s) (countOf b s)
-
-abbrev pub cutAt : (line : ℕ) → Read → Read
-cutAt line (sheet w names ws) = faulty line
-cutAt line (faulty l) = faulty (min l line)
-
--- a text of at most so many bytes; of a longer one the front is read
-unfoldable pub readUpTo : (most : ℕ) → List ℕ → Read
-readUpTo most s = cond (leb (length s) most) (fromFirst (lines s)) (cutAt (1 + countOf 10 (take most s)) (fromFirst (lines (take most s))))
-
--- a legal sheet has at most 114,738 bytes: 32 in three lines, 65,535 of text in 4,096 names with a newline each, 19 in a header, 1,024 rows of 44
+-- The whole text, of whatever length.
 abbrev pub sheetOf : List ℕ → Read
-sheetOf s = readUpTo 131072 s
+sheetOf s = fromFirst (lines s)

@@ -15,12 +15,12 @@ use printer::put_bytes;
 use store::put_pair;
 use store::put_row;
 ghost use mathlib.Core.Path.{_≡_};
-ghost use Prim.Native.Nat.{ℕ, _+_, _*_, _≤_, _<_, _^_, min};
+ghost use Prim.Native.Nat.{ℕ, _+_, _*_, _≤_, _<_, _^_};
 ghost use lib.ListN.{length, drop};
 ghost use Rattle.steps.specs.Mode.{switches};
 ghost use Rattle.fields.specs.Fields.{part, lines};
 ghost use Rattle.printer.specs.Print.{Wrote};
-ghost use Rattle.parser.specs.Parse.{RowsRead, SmallLines, NamesRead, Told, Room, lent, fromFirst, fromSecond, fromThird, fromFourth, countOf, cutAt, readUpTo, sheetOf};
+ghost use Rattle.parser.specs.Parse.{RowsRead, SmallLines, NamesRead, Told, Room, lent, fromFirst, fromSecond, fromThird, fromFourth, sheetOf};
 
 const NEWLINE: u8 = 10;
 
@@ -207,71 +207,16 @@ fn from_first(s: &[u8], rows: &mut [u8], pairs: &mut [u8], text: &mut [u8]) -> P
     Parsed::Faulty { line: 1 }
 }
 
-// A legal sheet has at most 114,738 bytes: 32 in its first three lines, 65,535 of text in 4,096
-// names with a newline each, 19 in the header of the rows, and 1,024 rows of 44.
+// The longest text that is parsed. A sheet that is accepted has at most 114,738 bytes: 32 in its first three
+// lines, 65,535 of text in 4,096 names with a newline each, 19 in the header of the rows, and 1,024 rows of 44.
 pub const LONGEST: usize = 131072;
 
-fn newlines(s: &[u8]) -> usize
-    ensures { λ r. ⌜ (r ≡ countOf 10 (now (s .entry))) × (r ≤ length (now (s .entry))) ⌝ }
-{
-    let mut n: usize = 0;
-    let mut i: usize = 0;
-    while i < s.len() {
-        if s[i] == NEWLINE {
-            n += 1;
-        }
-        i += 1;
-    }
-    n
-}
-
-fn least(a: usize, b: usize) -> usize
-    ensures { λ r. ⌜ r ≡ min a b ⌝ }
-{
-    if a < b { a } else { b }
-}
-
-// The front of a text that goes on: the line in which it goes on is faulty, where none before it is.
-fn cut_short(front: &[u8], rows: &mut [u8], pairs: &mut [u8], text: &mut [u8]) -> Parsed
-    requires { ⌜ Room (now front) (now rows) (now pairs) ⌝ }
-    ensures { λ r. ⌜ Told (cutAt (1 + countOf 10 (now (front .entry))) (fromFirst (lines (now (front .entry))))) (length (now (front .entry))) r
-        (lent (now (rows .entry)) (now (rows .exit)) (now (pairs .entry)) (now (pairs .exit)) (now (text .entry)) (now (text .exit))) ⌝ }
-{
-    let over = 1 + newlines(front);
-    let read = from_first(front, rows, pairs, text);
-    match read {
-        Parsed::Faulty { line } => Parsed::Faulty {
-            line: least(line, over),
-        },
-        Parsed::Sheet {
-            arrow: _,
-            async_to_generator: _,
-            async_generator_functions: _,
-            rows: _,
-            names: _,
-            text: _,
-        } => Parsed::Faulty { line: over },
-    }
-}
-
-// A text of any length, of which at most `most` bytes are read: one that is longer is cut short.
-fn parse_up_to(most: usize, s: &[u8], rows: &mut [u8], pairs: &mut [u8], text: &mut [u8]) -> Parsed
-    requires { ⌜ (most ≤ 131072) × ((16384 ≤ length (now rows)) × (1048576 ≤ length (now pairs)) × (131072 ≤ length (now text))) ⌝ }
-    ensures { λ r. ⌜ Told (readUpTo most (now (s .entry))) most r
-        (lent (now (rows .entry)) (now (rows .exit)) (now (pairs .entry)) (now (pairs .exit)) (now (text .entry)) (now (text .exit))) ⌝ }
-{
-    if s.len() <= most {
-        return from_first(s, rows, pairs, text);
-    }
-    cut_short(&s[..most], rows, pairs, text)
-}
-
-// A text of any length and any bytes. The parts of a sheet stand at the front of what was lent; at
-// a fault, that may hold anything.
+// A text of any bytes. The parts of a sheet stand at the front of what was lent; at a fault, that may hold
+// anything.
 pub fn parse(s: &[u8], rows: &mut [u8], pairs: &mut [u8], text: &mut [u8]) -> Parsed
-    requires { ⌜ (16384 ≤ length (now rows)) × (1048576 ≤ length (now pairs)) × (131072 ≤ length (now text)) ⌝ }
+    requires { ⌜ (length (now s) ≤ 131072) × (16384 ≤ length (now rows)) × (1048576 ≤ length (now pairs)) × (131072 ≤ length (now text)) ⌝ }
     ensures { λ r. ⌜ Told (sheetOf (now (s .entry))) 131072 r
         (lent (now (rows .entry)) (now (rows .exit)) (now (pairs .entry)) (now (pairs .exit)) (now (text .entry)) (now (text .exit))) ⌝ }
 {
-    parse_up_to(LONGEST, s, rows, pairs, text)
+    from_first(s, rows, pairs, text)
 }

@@ -4,6 +4,12 @@ use lib.Seq.{length-take-le}
 use borrow.Author.Needs.{needs}
 use Rattle.convert.proofs.main.Statement.{statement}
 use Rattle.convert.proofs.main.Tie as tie
+use Rattle.convert.proofs.main.Reads as reads
+use Rattle.convert.proofs.main.Lts as lts
+use Rattle.convert.proofs.answer_input.Reads as answer-input-reads
+use Rattle.convert.proofs.input_room.Reads as input-room-reads
+use Rattle.convert.proofs.text_room.Reads as text-room-reads
+use Rattle.io.proofs.write_all.Reads as write-all-reads
 
 input-room-requires : tie.Need-input-room-requires
 input-room-requires c κs = search needs
@@ -11,29 +17,20 @@ input-room-requires c κs = search needs
 text-room-requires : tie.Need-text-room-requires
 text-room-requires c κs = search needs
 
-slice-aggregate-read-full : tie.Need-slice-aggregate-read-full
-slice-aggregate-read-full c = search needs
+slice-aggregate-answer-input : tie.Need-slice-aggregate-answer-input
+slice-aggregate-answer-input c = search needs
 
-read-full-requires : tie.Need-read-full-requires
-read-full-requires c κs = search needs
+slice-aggregate-answer-input-2 : tie.Need-slice-aggregate-answer-input-2
+slice-aggregate-answer-input-2 c = search needs
 
-array-share-prefix-input : tie.Need-array-share-prefix-input
-array-share-prefix-input c = search needs
-
-slice-aggregate-answer-text : tie.Need-slice-aggregate-answer-text
-slice-aggregate-answer-text c = search needs
-
-slice-aggregate-answer-text-2 : tie.Need-slice-aggregate-answer-text-2
-slice-aggregate-answer-text-2 c = search needs
-
-answer-text-requires : tie.Need-answer-text-requires
-answer-text-requires c κs = search needs
+answer-input-requires : tie.Need-answer-input-requires
+answer-input-requires c κs = search needs
 
 array-share-prefix-out : tie.Need-array-share-prefix-out
 array-share-prefix-out c = search needs
 
 slice-aggregate-write-all : tie.Need-slice-aggregate-write-all
-slice-aggregate-write-all c = sym (length-take-le _ _ (c .before .before .answer-text .ensures .whole))
+slice-aggregate-write-all c = sym (length-take-le _ _ (c .before .before .before .answer-input .ensures))
 
 write-all-requires : tie.Need-write-all-requires
 write-all-requires c κs = search needs
@@ -47,12 +44,9 @@ main-spec =
     (tie.spec
     input-room-requires
     text-room-requires
-    slice-aggregate-read-full
-    read-full-requires
-    array-share-prefix-input
-    slice-aggregate-answer-text
-    slice-aggregate-answer-text-2
-    answer-text-requires
+    slice-aggregate-answer-input
+    slice-aggregate-answer-input-2
+    answer-input-requires
     array-share-prefix-out
     slice-aggregate-write-all
     write-all-requires

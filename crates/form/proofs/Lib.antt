@@ -1,0 +1,5 @@
+pub mod Short
+pub mod Scanning
+pub mod Verdict
+pub mod Long
+pub mod Ending
