@@ -25,11 +25,11 @@ fn nest(shape: &str, depth: usize) -> Node {
     let expression = |wrap: fn(Node) -> Node| Node::statement(around(depth - 2, Node::this(), wrap));
     match shape {
         "arrows" => expression(|inner| Node::arrow([], inner)),
-        "async arrows" => expression(|inner| Node::arrow([], inner).attr(3)),
+        "async arrows" => expression(|inner| Node::arrow([], inner).async_()),
         "calls" => expression(|inner| Node::call(inner, [])),
         "members" => expression(|inner| Node::member(inner, "a")),
-        "blocks" => around(depth - 3, reads_this(), |inner| Node::new(Kind::Block).child(inner)),
-        "functions" => around((depth - 3) / 2, reads_this(), |inner| Node::function([], [inner]).attr(8)),
+        "blocks" => around(depth - 3, reads_this(), |inner| Node::block([inner])),
+        "functions" => around((depth - 3) / 2, reads_this(), |inner| Node::function([], [inner]).declaration()),
         _ => unreachable!(),
     }
 }

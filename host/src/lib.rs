@@ -24,13 +24,16 @@
 //!
 //! A call takes up to 896 KiB of stack, which a thread of Rust's default size has.
 
+mod node;
+mod origins;
 mod refusal;
 mod table;
 
 pub mod raw;
 
+pub use node::{Name, Node};
 pub use refusal::Refusal;
-pub use table::{Binding, Kind, Node, Row, Table, Use};
+pub use table::{Binding, Children, Kind, Row, Table, Use};
 
 /// What is to be converted.
 ///
@@ -57,6 +60,47 @@ impl Switches {
 }
 
 /// A converted script.
+///
+/// It is read from row 0 on, by [`children`](Converted::children) or as a whole [`tree`](Converted::tree). What a host
+/// knows of a script beside its rows, such as literals and positions, it finds again by
+/// [`origins`](Converted::origins):
+///
+/// ```
+/// use thawcopper::{convert, Converted, Node, Switches, Table};
+///
+/// // f(() => this.a)
+/// let arrow = Node::arrow([], Node::member(Node::this(), "a"));
+/// let script = Node::program([Node::statement(Node::call(Node::ident("f"), [arrow]))]);
+/// let table = Table::from_tree(&script);
+/// let converted = convert(&Switches::ARROWS, &table).unwrap();
+///
+/// fn print(converted: &Converted, origins: &[Option<usize>], row: usize, depth: usize, out: &mut String) {
+///     let from = origins[row].map_or("added".to_string(), |origin| format!("from row {}", origin));
+///     let kind = converted.rows[row].kind().unwrap();
+///     *out += &format!("{:indent$}{:?}, {}\n", "", kind, from, indent = 2 * depth);
+///     for child in converted.children(row) {
+///         print(converted, origins, child, depth + 1, out);
+///     }
+/// }
+///
+/// let mut out = String::new();
+/// print(&converted, &converted.origins(&table), 0, 0, &mut out);
+/// assert_eq!(out, "\
+/// Program, from row 0
+///   Var, added
+///     Declarator, added
+///       This, added
+///   ExprStmt, from row 1
+///     Call, from row 2
+///       Ident, from row 3
+///       Function, from row 4
+///         Params, from row 5
+///         Body, added
+///           Return, added
+///             Member, from row 6
+///               Ident, from row 7
+/// ");
+/// ```
 #[derive(Clone, Debug, PartialEq, Eq)]
 pub struct Converted {
     /// The rows of the result. A name number with attr 0 is one of the table's names; with attr 1, on a Declarator or an
@@ -67,6 +111,85 @@ pub struct Converted {
 }
 
 impl Converted {
+    /// The children of a row of the result: their numbers, from first to last. See [`Row::children`].
+    pub fn children(&self, row: usize) -> Children<'_> {
+        Row::children(&self.rows, row)
+    }
+
+    /// The result as a tree, with the names of the table that was converted; see [`Node::from_rows`].
+    ///
+    /// ```
+    /// use thawcopper::{convert, Kind, Node, Switches, Table};
+    ///
+    /// // () => this
+    /// let table = Table::from_tree(&Node::program([Node::statement(Node::arrow([], Node::this()))]));
+    /// let tree = convert(&Switches::ARROWS, &table).unwrap().tree(&table);
+    ///
+    /// // var _this = this; (function () { return _this; }), where _this is binding 1
+    /// let declarator = Node::new(Kind::Declarator).attr(1).name_number(1).child(Node::this());
+    /// let ident = Node::new(Kind::Ident).attr(1).name_number(1);
+    /// let function = Node::function([], [Node::return_(ident)]);
+    /// assert_eq!(tree, Node::program([Node::var([declarator]), Node::statement(function)]));
+    /// ```
+    ///
+    /// # Panics
+    ///
+    /// If the rows were changed and are no tree any more.
+    pub fn tree(&self, table: &Table) -> Node {
+        Node::from_rows(&self.rows, table).expect("the rows of a result are a tree")
+    }
+
+    /// For each row of the result the row that it comes from in the table that was converted; none where it was added.
+    ///
+    /// A row that stays as it is comes from itself, and a row that is rewritten from the row in whose place it stands:
+    ///
+    /// | in the table | in the result | comes from |
+    /// |---|---|---|
+    /// | `this` | a captured Ident | the This |
+    /// | `arguments` | a captured Ident | the Ident |
+    /// | an Arrow | a Function | the Arrow; its Params from the Arrow's, and its Body from the Arrow's if that has one |
+    /// | `super.p`, `super[k]` | the Call `get()`, `get(k)` | the Member, the Computed |
+    /// | `super.p = v`, `super[k] = v` | the Call `set(v)`, `set(k, v)` | the Assign |
+    /// | `super.m(a)`, `super[k](a)` | `get().call(this, a)`, `get(k).call(this, a)` | the outer Call from the Call, the Call of `get` from the Member, the Computed |
+    ///
+    /// What stands below them, such as `k`, `v` and `a`, comes from where it stood. Added are
+    ///
+    /// - the Var that goes first in a frame, with all that is in it, the accessors too;
+    /// - the Body and the Return around the expression of an Arrow that becomes a Function;
+    /// - the Ident of an accessor that is called; the Member with the property `call`, and the This or captured Ident
+    ///   that is the first argument there;
+    /// - `captured = this` after a called Super, with all that is in it: as a statement, with the ExprStmt, or in a
+    ///   Sequence, which is added too, while the Call in it is not.
+    ///
+    /// So no two rows come from one, and the rows that they come from grow from each to the next. No row of the result
+    /// comes from the Super of a rewritten access, and of a rewritten assignment none from the Target and its Member or
+    /// Computed; every other row of the table has one that comes from it.
+    ///
+    /// ```
+    /// use thawcopper::{convert, Node, Switches, Table};
+    ///
+    /// // class C { async m() { super.f(); } }
+    /// // rows: Program, Class, Method, Function, Params, Body, ExprStmt, Call, Member, Super
+    /// let call = Node::call(Node::member(Node::super_(), "f"), []);
+    /// let method = Node::method(Node::function([], [Node::statement(call)]).async_());
+    /// let table = Table::from_tree(&Node::program([Node::class(None, [method]).name("C").declaration()]));
+    ///
+    /// // class C { async m() { var _get = () => super.f, _this = this; _get().call(_this); } }
+    /// let origins = convert(&Switches::ASYNC, &table).unwrap().origins(&table);
+    /// assert_eq!(origins[..6], [Some(0), Some(1), Some(2), Some(3), Some(4), Some(5)]);
+    /// // the Var: two Declarators, one with Arrow, Params, Member, Super, one with This
+    /// assert_eq!(origins[6..14], [None; 8]);
+    /// // ExprStmt, Call, Member `call`, Call of the accessor, its Ident, the Ident of `this`
+    /// assert_eq!(origins[14..], [Some(6), Some(7), None, Some(8), None, None]);
+    /// ```
+    ///
+    /// # Panics
+    ///
+    /// If the rows show that it was another table that was converted.
+    pub fn origins(&self, table: &Table) -> Vec<Option<usize>> {
+        origins::origins(&self.rows, &self.bindings, table)
+    }
+
     /// What binding `number`, from 1, is to be called, before the host makes it unique: see [`base_text`].
     pub fn base_text(&self, table: &Table, number: u32) -> Result<String, Refusal> {
         base_text(&self.bindings, table, number)

@@ -1,10 +1,43 @@
-//! Tables: rows, names and text, and the tree that they are laid out from.
+//! Tables: rows, names and text.
 
 use std::collections::HashMap;
+use std::iter::FusedIterator;
+
+use crate::node::Step;
+use crate::{Name, Node};
 
 /// The kinds of rows. `docs/FORMAT.md` says which children and which attr each has.
+///
+/// There may be more of them one day, so a `match` has an arm for the others. All that there are now are not enough:
+///
+/// ```compile_fail,E0004
+/// use thawcopper::Kind::{self, *};
+///
+/// fn known(kind: Kind) -> bool {
+///     match kind {
+///         Program | ExprStmt | Var | Declarator | Return | Block | Other | Opaque | This | Super | Ident | Member => true,
+///         Computed | Call | Assign | Arrow | Function | Params | Body | Class | Method | Field | StaticBlock => true,
+///         Object | Property | Sequence | Arguments | Target => true,
+///     }
+/// }
+/// ```
+///
+/// ```
+/// use thawcopper::Kind::{self, *};
+///
+/// fn known(kind: Kind) -> bool {
+///     match kind {
+///         Program | ExprStmt | Var | Declarator | Return | Block | Other | Opaque | This | Super | Ident | Member => true,
+///         Computed | Call | Assign | Arrow | Function | Params | Body | Class | Method | Field | StaticBlock => true,
+///         Object | Property | Sequence | Arguments | Target => true,
+///         _ => false,
+///     }
+/// }
+/// assert!(Kind::ALL.iter().all(|kind| known(*kind)));
+/// ```
 #[derive(Clone, Copy, Debug, PartialEq, Eq, Hash)]
 #[repr(u32)]
+#[non_exhaustive]
 pub enum Kind {
     Program = 0,
     ExprStmt = 1,
@@ -38,7 +71,7 @@ pub enum Kind {
 
 impl Kind {
     /// All kinds, by number.
-    pub const ALL: [Kind; 28] = [
+    pub const ALL: &'static [Kind] = &[
         Kind::Program,
         Kind::ExprStmt,
         Kind::Var,
@@ -109,11 +142,80 @@ impl Row {
         };
         bytes.chunks_exact(16).map(row).collect()
     }
+
+    /// The children of a row among its rows: their numbers, from first to last. A row that is not there has none.
+    ///
+    /// In rows that are wrong, a child whose end is not past it or is past its parent's counts as the last.
+    ///
+    /// ```
+    /// use thawcopper::{Node, Row, Table};
+    ///
+    /// // a(b.c, this)
+    /// let call = Node::call(Node::ident("a"), [Node::member(Node::ident("b"), "c"), Node::this()]);
+    /// let rows = Table::from_tree(&Node::program([Node::statement(call)])).rows();
+    /// let children: Vec<usize> = Row::children(&rows, 2).collect();
+    /// assert_eq!(children, [3, 4, 6]);
+    /// ```
+    pub fn children(rows: &[Row], row: usize) -> Children<'_> {
+        let end = rows.get(row).map_or(0, |row| rows.len().min(row.end as usize));
+        Children { rows, next: row.saturating_add(1), end }
+    }
 }
 
+/// The numbers of a row's children: see [`Row::children`].
+#[derive(Clone, Debug)]
+pub struct Children<'a> {
+    rows: &'a [Row],
+    next: usize,
+    end: usize,
+}
+
+impl Iterator for Children<'_> {
+    type Item = usize;
+
+    fn next(&mut self) -> Option<usize> {
+        if self.next >= self.end {
+            return None;
+        }
+        let child = self.next;
+        let end = self.rows[child].end as usize;
+        self.next = if end > child { end } else { self.end };
+        Some(child)
+    }
+}
+
+impl FusedIterator for Children<'_> {}
+
 /// What a binding was made for.
+///
+/// There may be more of them one day, so a `match` has an arm for the others. All that there are now are not enough:
+///
+/// ```compile_fail,E0004
+/// use thawcopper::Use;
+///
+/// fn captures(purpose: Use) -> bool {
+///     match purpose {
+///         Use::This | Use::Arguments => true,
+///         Use::Get | Use::Set | Use::Prop | Use::Value => false,
+///     }
+/// }
+/// ```
+///
+/// ```
+/// use thawcopper::Use;
+///
+/// fn captures(purpose: Use) -> bool {
+///     match purpose {
+///         Use::This | Use::Arguments => true,
+///         Use::Get | Use::Set | Use::Prop | Use::Value => false,
+///         _ => false,
+///     }
+/// }
+/// assert!(captures(Use::This));
+/// ```
 #[derive(Clone, Copy, Debug, PartialEq, Eq, Hash)]
 #[repr(u32)]
+#[non_exhaustive]
 pub enum Use {
     /// Captures `this`.
     This = 1,
@@ -171,19 +273,29 @@ impl Binding {
 /// A script: its rows, its names, and the text that the names are parts of, as the library reads them.
 ///
 /// [`Table::from_tree`] lays one out; [`Table::from_bytes`] takes any bytes, which are checked by
-/// [`convert`](crate::convert), not before.
-#[derive(Clone, Debug, Default, PartialEq, Eq)]
+/// [`convert`](crate::convert), not before. Tables are equal if their bytes are.
+#[derive(Clone, Debug, Default)]
 pub struct Table {
     rows: Vec<u8>,
     names: Vec<u8>,
     text: Vec<u8>,
+    /// The numbers of the names up to `numbered`, by how they are spelled; of names spelled alike the first.
     numbers: HashMap<String, u32>,
+    numbered: usize,
 }
+
+impl PartialEq for Table {
+    fn eq(&self, other: &Table) -> bool {
+        self.rows == other.rows && self.names == other.names && self.text == other.text
+    }
+}
+
+impl Eq for Table {}
 
 impl Table {
     /// A table of these bytes: rows of four little-endian words, names of two (start and length), and the text.
     pub fn from_bytes(rows: Vec<u8>, names: Vec<u8>, text: Vec<u8>) -> Table {
-        Table { rows, names, text, numbers: HashMap::new() }
+        Table { rows, names, text, numbers: HashMap::new(), numbered: 0 }
     }
 
     /// Lays the rows of a tree out in preorder. Names that are spelled alike get one number.
@@ -200,29 +312,48 @@ impl Table {
     /// ```
     pub fn from_tree(tree: &Node) -> Table {
         let mut table = Table::default();
-        table.add_rows(tree);
+        let mut open = Vec::new();
+        for step in tree.steps() {
+            match step {
+                Step::In(node) => {
+                    open.push(table.rows.len());
+                    let name = match node.get_name() {
+                        Name::None => 0,
+                        Name::Number(number) => *number,
+                        Name::Spelled(spelled) => table.add_name(spelled),
+                    };
+                    for word in [node.get_kind() as u32, node.get_attr(), name, 0] {
+                        table.rows.extend_from_slice(&word.to_le_bytes());
+                    }
+                }
+                Step::Out => {
+                    let at = open.pop().expect("a node is left after it was entered");
+                    let end = (table.rows.len() / 16) as u32;
+                    table.rows[at + 12..at + 16].copy_from_slice(&end.to_le_bytes());
+                }
+            }
+        }
         table
     }
 
-    fn add_rows(&mut self, node: &Node) {
-        let at = self.rows.len();
-        let name = match &node.name {
-            NodeName::None => 0,
-            NodeName::Number(number) => *number,
-            NodeName::Spelled(spelled) => self.add_name(spelled),
-        };
-        for word in [node.kind as u32, node.attr, name, 0] {
-            self.rows.extend_from_slice(&word.to_le_bytes());
+    /// The tree of the rows; none where they are not one: see [`Node::from_rows`].
+    ///
+    /// ```
+    /// use thawcopper::{Node, Table};
+    ///
+    /// let script = Node::program([Node::statement(Node::call(Node::ident("a"), [Node::this()]))]);
+    /// assert_eq!(Table::from_tree(&script).tree(), Some(script));
+    /// ```
+    pub fn tree(&self) -> Option<Node> {
+        if self.rows.len() % 16 != 0 {
+            return None;
         }
-        for child in &node.children {
-            self.add_rows(child);
-        }
-        let end = (self.rows.len() / 16) as u32;
-        self.rows[at + 12..at + 16].copy_from_slice(&end.to_le_bytes());
+        Node::from_rows(&self.rows(), self)
     }
 
     /// The number of a name, which is added where it is new.
     pub fn add_name(&mut self, spelled: &str) -> u32 {
+        self.number_names();
         if let Some(number) = self.numbers.get(spelled) {
             return *number;
         }
@@ -232,7 +363,19 @@ impl Table {
         self.text.extend_from_slice(spelled.as_bytes());
         let number = (self.names.len() / 8) as u32;
         self.numbers.insert(spelled.to_string(), number);
+        self.numbered = self.names.len() / 8;
         number
+    }
+
+    /// Brings `numbers` up to all names that are there.
+    fn number_names(&mut self) {
+        while self.numbered < self.names.len() / 8 {
+            self.numbered += 1;
+            let number = self.numbered as u32;
+            if let Some(spelled) = self.name(number).map(str::to_string) {
+                self.numbers.entry(spelled).or_insert(number);
+            }
+        }
     }
 
     /// The name of that number, from 1, if it is one.
@@ -248,6 +391,12 @@ impl Table {
         Row::list(&self.rows)
     }
 
+    /// The row of that number, if there is one.
+    pub fn row(&self, number: usize) -> Option<Row> {
+        let [kind, attr, name, end] = words(self.rows.chunks_exact(16).nth(number)?);
+        Some(Row { kind, attr, name, end })
+    }
+
     /// The rows as the library reads them.
     pub fn row_bytes(&self) -> &[u8] {
         &self.rows
@@ -261,167 +410,5 @@ impl Table {
     /// The text that the names are parts of.
     pub fn text_bytes(&self) -> &[u8] {
         &self.text
-    }
-}
-
-#[derive(Clone, Debug, PartialEq, Eq)]
-enum NodeName {
-    None,
-    Number(u32),
-    Spelled(String),
-}
-
-/// A node of the tree that a table is laid out from.
-///
-/// [`Node::new`] makes one of any kind; the functions below are for the common ones. Nothing is checked here: what the
-/// library does not allow it refuses, with the row.
-///
-/// ```
-/// use thawcopper::{convert, Kind, Node, Switches, Table};
-///
-/// // class C { async m() { return super.name; } }
-/// let body = Node::new(Kind::Body).child(Node::return_(Node::member(Node::super_(), "name")));
-/// let function = Node::new(Kind::Function).attr(Node::ASYNC).child(Node::params([])).child(body);
-/// let class = Node::new(Kind::Class)
-///     .attr(Node::DECLARATION)
-///     .name("C")
-///     .child(Node::new(Kind::Method).child(function));
-/// let table = Table::from_tree(&Node::program([class]));
-///
-/// let converted = convert(&Switches::ASYNC, &table).unwrap();
-/// assert_eq!(converted.base_text(&table, 1).unwrap(), "superprop_getName");
-/// ```
-#[derive(Clone, Debug, PartialEq, Eq)]
-pub struct Node {
-    kind: Kind,
-    attr: u32,
-    name: NodeName,
-    children: Vec<Node>,
-}
-
-impl Node {
-    /// An Arrow's or a Function's bit: async.
-    pub const ASYNC: u32 = 1;
-    /// An Arrow's bit: its body is an expression.
-    pub const EXPRESSION: u32 = 2;
-    /// A Function's bit: generator.
-    pub const GENERATOR: u32 = 2;
-    /// A Function's bit: constructor.
-    pub const CONSTRUCTOR: u32 = 4;
-    /// A Function's or a Class's bit: it stands as a statement.
-    pub const DECLARATION: u32 = 8;
-    /// A Method's, Field's or Property's bit: a computed key stands first; a Class's: its heritage does.
-    pub const KEY: u32 = 1;
-    /// A Method's or Field's bit: static.
-    pub const STATIC: u32 = 2;
-    /// A Property's bit: its value is a Function written as a method.
-    pub const METHOD: u32 = 2;
-    /// A Field's bit: it has a value.
-    pub const VALUE: u32 = 4;
-
-    /// A node without attr, name or children.
-    pub fn new(kind: Kind) -> Node {
-        Node { kind, attr: 0, name: NodeName::None, children: Vec::new() }
-    }
-
-    /// With these bits, or this number, as attr.
-    pub fn attr(mut self, attr: u32) -> Node {
-        self.attr = attr;
-        self
-    }
-
-    /// With this name.
-    pub fn name(mut self, spelled: &str) -> Node {
-        self.name = NodeName::Spelled(spelled.to_string());
-        self
-    }
-
-    /// With this number as its name. Other and Opaque keep any number.
-    pub fn name_number(mut self, number: u32) -> Node {
-        self.name = NodeName::Number(number);
-        self
-    }
-
-    /// With one child more.
-    pub fn child(mut self, child: Node) -> Node {
-        self.children.push(child);
-        self
-    }
-
-    /// With some children more.
-    pub fn children(mut self, children: impl IntoIterator<Item = Node>) -> Node {
-        self.children.extend(children);
-        self
-    }
-
-    /// A whole script.
-    pub fn program(statements: impl IntoIterator<Item = Node>) -> Node {
-        Node::new(Kind::Program).children(statements)
-    }
-
-    /// An expression as a statement.
-    pub fn statement(expression: Node) -> Node {
-        Node::new(Kind::ExprStmt).child(expression)
-    }
-
-    /// `return expression`
-    pub fn return_(expression: Node) -> Node {
-        Node::new(Kind::Return).child(expression)
-    }
-
-    /// `this`
-    pub fn this() -> Node {
-        Node::new(Kind::This)
-    }
-
-    /// `super`, the object of a member or the callee of a call.
-    pub fn super_() -> Node {
-        Node::new(Kind::Super)
-    }
-
-    /// A name that is read.
-    pub fn ident(name: &str) -> Node {
-        Node::new(Kind::Ident).name(name)
-    }
-
-    /// `object.name`
-    pub fn member(object: Node, name: &str) -> Node {
-        Node::new(Kind::Member).name(name).child(object)
-    }
-
-    /// `object[key]`
-    pub fn computed(object: Node, key: Node) -> Node {
-        Node::new(Kind::Computed).child(object).child(key)
-    }
-
-    /// `callee(arguments)`
-    pub fn call(callee: Node, arguments: impl IntoIterator<Item = Node>) -> Node {
-        Node::new(Kind::Call).child(callee).children(arguments)
-    }
-
-    /// `target = right`; the target is an Ident, Member, Computed or Opaque.
-    pub fn assign(target: Node, right: Node) -> Node {
-        Node::new(Kind::Assign).child(Node::new(Kind::Target).child(target)).child(right)
-    }
-
-    /// A parameter or variable, without or with an initialiser.
-    pub fn declarator(name: &str, init: Option<Node>) -> Node {
-        Node::new(Kind::Declarator).name(name).children(init)
-    }
-
-    /// The parameters of a function or arrow.
-    pub fn params(declarators: impl IntoIterator<Item = Node>) -> Node {
-        Node::new(Kind::Params).children(declarators)
-    }
-
-    /// `(params) => expression`
-    pub fn arrow(params: impl IntoIterator<Item = Node>, expression: Node) -> Node {
-        Node::new(Kind::Arrow).attr(Node::EXPRESSION).child(Node::params(params)).child(expression)
-    }
-
-    /// `function (params) { body }`, an expression.
-    pub fn function(params: impl IntoIterator<Item = Node>, body: impl IntoIterator<Item = Node>) -> Node {
-        let body = Node::new(Kind::Body).children(body);
-        Node::new(Kind::Function).child(Node::params(params)).child(body)
     }
 }

@@ -4,11 +4,24 @@ fn sheet() -> Table {
     Table::from_tree(&Node::program([Node::statement(Node::arrow([], Node::this()))]))
 }
 
+fn rows(list: &[[u32; 4]]) -> Vec<Row> {
+    list.iter().map(|&[kind, attr, name, end]| Row { kind, attr, name, end }).collect()
+}
+
+/// A class with one method, async.
+fn in_async_method(statements: impl IntoIterator<Item = Node>) -> Table {
+    let method = Node::method(Node::function([], statements).async_());
+    Table::from_tree(&Node::program([Node::class(None, [method]).declaration()]))
+}
+
+/// A class with a constructor.
+fn in_constructor(statements: impl IntoIterator<Item = Node>) -> Table {
+    let class = Node::class(Some(Node::ident("B")), [Node::constructor([], statements)]);
+    Table::from_tree(&Node::program([class.declaration()]))
+}
+
 #[test]
 fn the_sheet() {
-    let rows = |list: &[[u32; 4]]| -> Vec<Row> {
-        list.iter().map(|&[kind, attr, name, end]| Row { kind, attr, name, end }).collect()
-    };
     let table = sheet();
     assert_eq!(table.rows(), rows(&[[0, 0, 0, 5], [1, 0, 0, 5], [16, 2, 0, 5], [18, 0, 0, 4], [9, 0, 0, 5]]));
     let converted = convert(&Switches::ARROWS, &table).unwrap();
@@ -40,9 +53,7 @@ fn room_grows_as_needed() {
         let assigned = Node::assign(Node::member(Node::super_(), &name), Node::this());
         [Node::statement(read), Node::statement(assigned)]
     });
-    let method = Node::new(Kind::Method).child(Node::function([], statements).attr(Node::ASYNC));
-    let class = Node::new(Kind::Class).attr(Node::DECLARATION).child(method);
-    let table = Table::from_tree(&Node::program([class]));
+    let table = in_async_method(statements);
     let converted = convert(&Switches::ASYNC, &table).unwrap();
     assert!(converted.rows.len() > 2 * table.rows().len());
     assert_eq!(converted.bindings.len(), 1 + 3 * 500);
@@ -74,10 +85,9 @@ fn every_refusal_of_convert() {
     );
     let called = Node::call(Node::super_(), []);
     assert_eq!(refusal(&Switches::ARROWS, Node::program([Node::statement(called)])), Refusal::Super { row: 3 });
-    let field = Node::new(Kind::Field).attr(Node::VALUE).child(Node::arrow([], Node::this()));
-    let class = Node::new(Kind::Class).attr(Node::DECLARATION).child(field);
+    let class = Node::class(None, [Node::field(Some(Node::arrow([], Node::this())))]).declaration();
     assert_eq!(refusal(&Switches::ASYNC, Node::program([class])), Refusal::Field { row: 2 });
-    let var = Node::new(Kind::Var).child(Node::declarator("arguments", None));
+    let var = Node::var([Node::declarator("arguments", None)]);
     assert_eq!(refusal(&Switches::ASYNC, Node::program([var])), Refusal::ArgumentsBinding { row: 2 });
 }
 
@@ -117,4 +127,331 @@ fn kinds_have_their_numbers() {
         assert_eq!(Kind::from_number(number).is_some(), number <= 28 && number != 7);
     }
     assert!(Kind::ALL.windows(2).all(|pair| (pair[0] as u32) < pair[1] as u32));
+}
+
+#[test]
+fn tables_are_equal_by_their_bytes() {
+    let laid = Table::from_tree(&Node::program([Node::statement(Node::ident("a"))]));
+    let taken = |table: &Table| {
+        let (rows, names, text) = (table.row_bytes(), table.name_bytes(), table.text_bytes());
+        Table::from_bytes(rows.to_vec(), names.to_vec(), text.to_vec())
+    };
+    assert_eq!(laid, taken(&laid));
+    // Asked for or not, a name that is there changes nothing.
+    let mut asked = taken(&laid);
+    asked.add_name("a");
+    assert_eq!(asked, laid);
+    let mut more = laid.clone();
+    more.add_name("b");
+    assert_ne!(more, laid);
+    assert_ne!(Table::from_bytes(vec![1], vec![], vec![]), Table::default());
+    assert_ne!(Table::from_bytes(vec![], vec![1], vec![]), Table::default());
+    assert_ne!(Table::from_bytes(vec![], vec![], vec![1]), Table::default());
+}
+
+#[test]
+fn a_name_that_is_there_keeps_its_number() {
+    let names: Vec<u8> = [0u32, 1, 1, 2, 0, 1, 5, 9].iter().flat_map(|word| word.to_le_bytes()).collect();
+    // Names 1 and 3 are `a`, name 2 is `bc`, name 4 is not inside the text.
+    let mut table = Table::from_bytes(Vec::new(), names, b"abc".to_vec());
+    assert_eq!(table.add_name("bc"), 2);
+    assert_eq!(table.add_name("a"), 1);
+    assert_eq!(table.add_name("b"), 5);
+    assert_eq!(table.add_name("b"), 5);
+    assert_eq!((table.name(5), table.text_bytes()), (Some("b"), &b"abcb"[..]));
+}
+
+#[test]
+fn a_tree_of_any_depth_is_the_librarys_to_refuse() {
+    let members = |depth: usize| (0..depth).fold(Node::this(), |inner, _| Node::member(inner, "a"));
+    let laid = |depth: usize| {
+        // A stack that has no room for a frame for each level.
+        let thread = std::thread::Builder::new().stack_size(128 * 1024).spawn(move || {
+            let script = Node::program([Node::statement(members(depth))]);
+            let table = Table::from_tree(&script);
+            let copy = script.clone();
+            assert!(copy == script);
+            assert!(format!("{:?}", copy).ends_with(&"]".repeat(depth + 2)));
+            assert!(table.tree() == Some(script));
+            table
+        });
+        thread.unwrap().join().unwrap()
+    };
+    assert_eq!(convert(&Switches::ARROWS, &laid(126)).unwrap().rows.len(), 129);
+    assert_eq!(convert(&Switches::ARROWS, &laid(127)), Err(Refusal::TooDeep { row: 129 }));
+    assert_eq!(convert(&Switches::ARROWS, &laid(16_000)), Err(Refusal::TooDeep { row: 129 }));
+    // More rows than a table may have: that is told first.
+    assert_eq!(convert(&Switches::ARROWS, &laid(30_000)), Err(Refusal::Sizes));
+}
+
+#[test]
+fn every_builder_makes_its_rows() {
+    let value = || Node::opaque([]).attr(7).name_number(9);
+    let members = vec![
+        (Node::constructor([], []), "Method [Function 4 [Params, Body]]"),
+        (
+            Node::method(Node::function([], []).async_().generator()).static_().key(value()),
+            "Method 3 [Opaque 7 #9, Function 3 [Params, Body]]",
+        ),
+        (Node::field(None), "Field"),
+        (Node::field(Some(Node::this())).static_().key(value()), "Field 7 [Opaque 7 #9, This]"),
+        (Node::static_block([Node::block([])]), "StaticBlock [Block]"),
+    ];
+    let parts = vec![
+        (Node::property(value()), "Property [Opaque 7 #9]"),
+        (Node::property(value()).key(Node::this()), "Property 1 [This, Opaque 7 #9]"),
+        (Node::property_method(Node::function([], [])), "Property 2 [Function [Params, Body]]"),
+        (Node::ident("spread"), "Ident \"spread\""),
+    ];
+    let expressions = vec![
+        (
+            Node::arrow_with_body([Node::declarator("p", Some(value()))], [Node::return_(Node::this())]).async_(),
+            "Arrow 1 [Params [Declarator \"p\" [Opaque 7 #9]], Body [Return [This]]]",
+        ),
+        (Node::arrow([], Node::this()).async_(), "Arrow 3 [Params, This]"),
+        (Node::computed(Node::ident("p"), value()), "Computed [Ident \"p\", Opaque 7 #9]"),
+        (Node::assign(Node::ident("p"), value()).attr(3), "Assign 3 [Target [Ident \"p\"], Opaque 7 #9]"),
+        (Node::sequence([Node::this(), value()]), "Sequence [This, Opaque 7 #9]"),
+        (Node::class(None, []), "Class"),
+    ];
+    let statements = vec![
+        (Node::class(Some(value()), []).name("C").declaration(), "Class 9 \"C\" [Opaque 7 #9]"),
+        (Node::function([], []).name("f").declaration(), "Function 8 \"f\" [Params, Body]"),
+        (Node::var([]), "Var"),
+        (Node::let_([Node::declarator("p", None)]), "Var 1 [Declarator \"p\"]"),
+        (Node::const_([Node::declarator("p", Some(value()))]), "Var 2 [Declarator \"p\" [Opaque 7 #9]]"),
+        (Node::case([Node::block([])]), "Block 1 [Block]"),
+        (
+            Node::other([Node::target(Node::ident("p")), Node::block([])]).attr(8).name_number(2),
+            "Other 8 #2 [Target [Ident \"p\"], Block]",
+        ),
+    ];
+    let all = |list: Vec<(Node, &str)>| -> Vec<Node> {
+        let checked = list.into_iter().map(|(node, printed)| {
+            assert_eq!(format!("{:?}", node), printed);
+            node
+        });
+        checked.collect()
+    };
+    // All of them in a script, which the library finds to be sound.
+    let mut script = all(statements);
+    script.push(Node::class(None, all(members)).declaration());
+    script.push(Node::statement(Node::object(all(parts))));
+    script.extend(all(expressions).into_iter().map(Node::statement));
+    let script = Node::program(script);
+    let table = Table::from_tree(&script);
+    assert_eq!(convert(&Switches::OFF, &table).unwrap().rows, table.rows());
+    assert_eq!(table.tree(), Some(script));
+}
+
+#[test]
+fn nodes_differ_by_every_part() {
+    let one = || Node::new(Kind::Opaque).child(Node::this());
+    let list = [
+        one(),
+        one().attr(1),
+        one().name("a"),
+        one().name("b"),
+        one().name_number(1),
+        one().child(Node::this()),
+        Node::new(Kind::Opaque),
+        Node::new(Kind::Other).child(Node::this()),
+        Node::new(Kind::Opaque).child(one()),
+    ];
+    for (i, a) in list.iter().enumerate() {
+        for (j, b) in list.iter().enumerate() {
+            assert_eq!(a == b, i == j, "{:?} {:?}", a, b);
+            assert_eq!(a.clone() == *b, i == j);
+        }
+    }
+    assert_eq!(one().name_number(0), one());
+    let named = one().attr(5).name("a");
+    assert_eq!((named.get_kind(), named.get_attr()), (Kind::Opaque, 5));
+    assert_eq!((named.get_name(), named.get_children()), (&Name::Spelled("a".to_string()), &[Node::this()][..]));
+}
+
+#[test]
+fn children_are_found_by_hopping() {
+    let children = |rows: &[Row], row: usize| Row::children(rows, row).collect::<Vec<usize>>();
+    let converted = convert(&Switches::ARROWS, &sheet()).unwrap();
+    assert_eq!(converted.children(0).collect::<Vec<_>>(), [1, 4]);
+    assert_eq!(converted.children(5).collect::<Vec<_>>(), [6, 7]);
+    assert_eq!(converted.children(9).count(), 0);
+    assert_eq!(converted.children(10).count(), 0);
+    assert_eq!(converted.children(usize::MAX).count(), 0);
+    // Ends that are not past their row, and past their parent's or all rows.
+    assert_eq!(children(&rows(&[[0, 0, 0, 4], [8, 0, 0, 2], [8, 0, 0, 2], [8, 0, 0, 4]]), 0), [1, 2]);
+    assert_eq!(children(&rows(&[[0, 0, 0, 3], [8, 0, 0, 9], [8, 0, 0, 3]]), 0), [1]);
+    assert_eq!(children(&rows(&[[0, 0, 0, 9], [8, 0, 0, 2], [8, 0, 0, 3]]), 0), [1, 2]);
+}
+
+#[test]
+fn rows_that_are_no_tree() {
+    let tree = |list: &[[u32; 4]]| Node::from_rows(&rows(list), &Table::default());
+    assert_eq!(tree(&[[0, 0, 0, 1]]), Some(Node::program([])));
+    assert_eq!(tree(&[]), None);
+    assert_eq!(tree(&[[0, 0, 0, 2]]), None);
+    assert_eq!(tree(&[[0, 0, 0, 1], [4, 0, 0, 2]]), None);
+    assert_eq!(tree(&[[0, 0, 0, 2], [4, 0, 0, 1]]), None);
+    assert_eq!(tree(&[[0, 0, 0, 3], [5, 0, 0, 2], [4, 0, 0, 4]]), None);
+    assert_eq!(tree(&[[0, 0, 0, 4], [5, 0, 0, 3], [4, 0, 0, 4], [4, 0, 0, 4]]), None);
+    assert_eq!(tree(&[[0, 0, 0, 2], [7, 0, 0, 2]]), None);
+    // A byte behind the last row.
+    let mut bytes = sheet().row_bytes().to_vec();
+    assert!(Table::from_bytes(bytes.clone(), Vec::new(), Vec::new()).tree().is_some());
+    bytes.push(0);
+    assert!(Table::from_bytes(bytes, Vec::new(), Vec::new()).tree().is_none());
+}
+
+#[test]
+fn names_in_a_tree() {
+    // Of the name that is there, one that is not, a binding, and numbers that are kept.
+    let list = [
+        [0, 0, 0, 8],
+        [1, 0, 0, 3],
+        [11, 0, 1, 3],
+        [1, 0, 0, 5],
+        [11, 0, 2, 5],
+        [6, 0, 1, 8],
+        [8, 0, 1, 7],
+        [11, 1, 1, 8],
+    ];
+    let mut table = Table::default();
+    table.add_name("a");
+    let kept = Node::other([Node::opaque([]).name_number(1), Node::new(Kind::Ident).attr(1).name_number(1)]);
+    let wanted = Node::program([
+        Node::statement(Node::ident("a")),
+        Node::statement(Node::new(Kind::Ident).name_number(2)),
+        kept.name_number(1),
+    ]);
+    assert_eq!(Node::from_rows(&rows(&list), &table), Some(wanted));
+}
+
+/// The origins of a conversion, with what holds of all: they grow, and the rows left out are those of these numbers.
+fn origins(switches: &Switches, table: &Table, left_out: &[usize]) -> Vec<(Kind, Option<usize>)> {
+    let converted = convert(switches, table).unwrap();
+    let origins = converted.origins(table);
+    let grown: Vec<usize> = origins.iter().copied().flatten().collect();
+    let wanted: Vec<usize> = (0..table.rows().len()).filter(|row| !left_out.contains(row)).collect();
+    assert_eq!(grown, wanted);
+    // The result as a tree is the result again, with its names numbered by first use.
+    let tree = converted.tree(table);
+    assert_eq!(Table::from_tree(&tree).tree(), Some(tree));
+    converted.rows.iter().map(|row| row.kind().unwrap()).zip(origins).collect()
+}
+
+#[test]
+fn origins_of_arrows_and_captures() {
+    use Kind::*;
+    let table = sheet();
+    assert!(origins(&Switches::OFF, &table, &[]).iter().enumerate().all(|(row, (_, from))| *from == Some(row)));
+    assert_eq!(
+        origins(&Switches::ARROWS, &table, &[])[4..],
+        [(ExprStmt, Some(1)), (Function, Some(2)), (Params, Some(3)), (Body, None), (Return, None), (Ident, Some(4))]
+    );
+    // (p = () => { return; }) => { arguments; }, plain and then async: the bodies are the script's own
+    let inner = Node::arrow_with_body([], [Node::new(Return)]);
+    let outer =
+        Node::arrow_with_body([Node::declarator("p", Some(inner))], [Node::statement(Node::ident("arguments"))]);
+    let table = Table::from_tree(&Node::program([Node::statement(outer.clone())]));
+    let converted = origins(&Switches::ARROWS, &table, &[]);
+    assert!(converted.iter().enumerate().all(|(row, (_, from))| *from == Some(row)));
+    assert_eq!(converted.iter().filter(|(kind, _)| *kind == Function).count(), 2);
+    let table = Table::from_tree(&Node::program([Node::statement(outer.async_())]));
+    let converted = origins(&Switches::ASYNC, &table, &[]);
+    assert_eq!(converted[1..4], [(Var, None), (Declarator, None), (Arguments, None)]);
+    assert_eq!(converted.last(), Some(&(Ident, Some(11))));
+}
+
+#[test]
+fn origins_of_super() {
+    use Kind::*;
+    let dot = || Node::member(Node::super_(), "p");
+    let at = || Node::computed(Node::super_(), Node::ident("k"));
+    let value = || Node::ident("v");
+    // Each as the one statement of a method: its rows from 7 on in the table, and behind the Var in the result.
+    let cases = [
+        (dot(), vec![8], vec![(Call, Some(7)), (Ident, None)]),
+        (at(), vec![8], vec![(Call, Some(7)), (Ident, None), (Ident, Some(9))]),
+        (Node::assign(dot(), value()), vec![8, 9, 10], vec![(Call, Some(7)), (Ident, None), (Ident, Some(11))]),
+        (
+            Node::assign(at(), value()),
+            vec![8, 9, 10],
+            vec![(Call, Some(7)), (Ident, None), (Ident, Some(11)), (Ident, Some(12))],
+        ),
+        (
+            Node::call(dot(), [value()]),
+            vec![9],
+            vec![(Call, Some(7)), (Member, None), (Call, Some(8)), (Ident, None), (Ident, None), (Ident, Some(10))],
+        ),
+        (
+            Node::call(at(), [value()]),
+            vec![9],
+            vec![
+                (Call, Some(7)),
+                (Member, None),
+                (Call, Some(8)),
+                (Ident, None),
+                (Ident, Some(10)),
+                (Ident, None),
+                (Ident, Some(11)),
+            ],
+        ),
+    ];
+    for (expression, left_out, wanted) in cases {
+        let table = in_async_method([Node::statement(expression)]);
+        let converted = origins(&Switches::ASYNC, &table, &left_out);
+        let statement = converted.iter().position(|row| *row == (ExprStmt, Some(6))).unwrap();
+        assert_eq!(converted[6], (Var, None));
+        assert!(converted[6..statement].iter().all(|(_, from)| from.is_none()));
+        assert_eq!(converted[statement + 1..], wanted);
+    }
+    // Below a Target that is no assignment's `super` stays; a key that is an access itself is rewritten too.
+    let part = Node::opaque([Node::target(at())]);
+    origins(&Switches::ASYNC, &in_async_method([Node::statement(part)]), &[]);
+    let nested = Node::computed(Node::super_(), Node::computed(Node::super_(), dot()));
+    origins(&Switches::ASYNC, &in_async_method([Node::statement(nested)]), &[8, 10, 12]);
+}
+
+#[test]
+fn origins_after_super_calls() {
+    use Kind::*;
+    let called = || Node::call(Node::super_(), []);
+    let reads = || Node::statement(Node::arrow([], Node::this()));
+    let assignment = [(Assign, None), (Target, None), (Ident, None), (This, None)];
+    // class extends B { constructor() { super(); () => this; } }
+    let converted = origins(&Switches::ARROWS, &in_constructor([Node::statement(called()), reads()]), &[]);
+    assert_eq!(converted[7..9], [(Var, None), (Declarator, None)]);
+    assert_eq!(converted[9..13], [(ExprStmt, Some(7)), (Call, Some(8)), (Super, Some(9)), (ExprStmt, None)]);
+    assert_eq!(converted[13..17], assignment);
+    assert_eq!(converted[17], (ExprStmt, Some(10)));
+    // .. { return super(); () => this; } and with a Sequence of the script's own around it
+    let converted = origins(&Switches::ARROWS, &in_constructor([Node::return_(called()), reads()]), &[]);
+    assert_eq!(converted[9..13], [(Return, Some(7)), (Sequence, None), (Call, Some(8)), (Super, Some(9))]);
+    assert_eq!(converted[13..17], assignment);
+    let sequence = Node::return_(Node::sequence([called(), Node::assign(Node::ident("a"), Node::this())]));
+    let converted = origins(&Switches::ARROWS, &in_constructor([sequence, reads()]), &[]);
+    assert_eq!(converted[10..12], [(Sequence, Some(8)), (Sequence, None)]);
+    assert_eq!(converted[18..22], [(Assign, Some(11)), (Target, Some(12)), (Ident, Some(13)), (This, Some(14))]);
+    // `arguments = this`, captured, is the script's own.
+    let own = Node::assign(Node::ident("arguments"), Node::this());
+    let table = Table::from_tree(&Node::program([Node::statement(Node::arrow([], own).async_())]));
+    let converted = origins(&Switches::ASYNC, &table, &[]);
+    let own = [(Assign, Some(4)), (Target, Some(5)), (Ident, Some(6)), (Ident, Some(7))];
+    assert_eq!(converted[converted.len() - 4..], own);
+}
+
+#[test]
+#[should_panic(expected = "row 2 of the result does not come from row 2 of this table")]
+fn origins_of_another_table() {
+    let other = Table::from_tree(&Node::program([Node::statement(Node::this())]));
+    convert(&Switches::OFF, &sheet()).unwrap().origins(&other);
+}
+
+#[test]
+#[should_panic(expected = "row 5 of this table has no row in the result")]
+fn origins_of_a_longer_table() {
+    let reads = || Node::statement(Node::arrow([], Node::this()));
+    let longer = Table::from_tree(&Node::program([reads(), reads()]));
+    convert(&Switches::ARROWS, &sheet()).unwrap().origins(&longer);
 }

@@ -1,6 +1,8 @@
-//! One call of each side, compared in every number and every byte lent.
+//! One call of each side, compared in every number and every byte lent; and where the rows of a result come from.
 
-use thawcopper::{raw, Switches};
+use std::panic::{catch_unwind, AssertUnwindSafe};
+
+use thawcopper::{raw, Binding, Converted, Row, Switches};
 use thawcopper_reference as reference;
 
 /// Bytes of a table, and the switches.
@@ -74,6 +76,11 @@ impl Lent {
         &mut self.buffer[GUARD..GUARD + length]
     }
 
+    /// What was lent.
+    fn lent(&self) -> &[u8] {
+        &self.buffer[GUARD..GUARD + self.length]
+    }
+
     /// Whether the front is this, and all else the pattern.
     fn holds(&self, front: &[u8]) -> bool {
         let whole = self.length + 2 * GUARD;
@@ -93,6 +100,8 @@ pub struct Comparer {
     pub answers: [u64; 12],
     /// Acceptances with bindings.
     pub with_bindings: u64,
+    /// Results whose origins were compared.
+    pub origins: u64,
 }
 
 /// How much is lent, in bytes.
@@ -114,38 +123,48 @@ pub enum Rooms {
 
 /// A table's bytes as they are handed over, and a copy.
 pub struct Input {
-    pub rows: Vec<u8>,
-    pub names: Vec<u8>,
-    pub text: Vec<u8>,
-    copy: (Vec<u8>, Vec<u8>, Vec<u8>),
+    table: thawcopper::Table,
+    copy: thawcopper::Table,
 }
 
 impl Input {
     pub fn of(table: &Table) -> Input {
         let rows = bytes(&table.rows, table.more_rows);
         let names = bytes(&table.names, table.more_names);
-        let text = table.text.clone();
-        let copy = (rows.clone(), names.clone(), text.clone());
-        Input { rows, names, text, copy }
+        let table = thawcopper::Table::from_bytes(rows, names, table.text.clone());
+        Input { copy: table.clone(), table }
+    }
+
+    pub fn rows(&self) -> &[u8] {
+        self.table.row_bytes()
+    }
+
+    pub fn names(&self) -> &[u8] {
+        self.table.name_bytes()
+    }
+
+    pub fn text(&self) -> &[u8] {
+        self.table.text_bytes()
     }
 
     fn untouched(&self) -> bool {
-        self.rows == self.copy.0 && self.names == self.copy.1 && self.text == self.copy.2
+        self.table == self.copy
     }
 }
 
 impl Comparer {
     pub fn new() -> Comparer {
-        Comparer { rows: Lent::new(), bindings: Lent::new(), calls: 0, answers: [0; 12], with_bindings: 0 }
+        let (rows, bindings) = (Lent::new(), Lent::new());
+        Comparer { rows, bindings, calls: 0, answers: [0; 12], with_bindings: 0, origins: 0 }
     }
 
     /// One call on each side, with that room.
     pub fn one(&mut self, switches: Switches, input: &Input, room: Room) -> Result<(), Difference> {
         let wanted = reference::convert(
             of_reference(switches),
-            &input.rows,
-            &input.names,
-            &input.text,
+            input.rows(),
+            input.names(),
+            input.text(),
             room.rows,
             room.bindings,
         );
@@ -165,7 +184,7 @@ impl Comparer {
         };
         let out_rows = self.rows.lend(room.rows);
         let out_bindings = self.bindings.lend(room.bindings);
-        let answer = raw::convert(&switches, &input.rows, &input.names, &input.text, out_rows, out_bindings);
+        let answer = raw::convert(&switches, input.rows(), input.names(), input.text(), out_rows, out_bindings);
         self.calls += 1;
         self.answers[numbers[0] as usize] += 1;
         self.with_bindings += u64::from(numbers[3] != 0);
@@ -186,6 +205,29 @@ impl Comparer {
         Ok(())
     }
 
+    /// Where the rows of the result come from that was written last, in just the room that it needs.
+    fn origins(&mut self, switches: Switches, input: &Input, wanted: &[Option<u32>]) -> Result<(), Difference> {
+        let rows = Row::list(self.rows.lent());
+        let converted = Converted { rows, bindings: Binding::list(self.bindings.lent()) };
+        self.origins += 1;
+        let told = |what: String| Err(format!("{:?}: {}", switches, what));
+        let got = match catch_unwind(AssertUnwindSafe(|| converted.origins(&input.table))) {
+            Ok(got) => got,
+            Err(_) => return told("the package finds no origins".to_string()),
+        };
+        if got.len() != wanted.len() {
+            return told(format!("{} rows and {} origins", wanted.len(), got.len()));
+        }
+        let parted = got.iter().zip(wanted).position(|(got, wanted)| *got != wanted.map(|row| row as usize));
+        match parted {
+            None => Ok(()),
+            Some(row) => told(format!(
+                "row {} of the result comes from {:?} by the reference, from {:?} by the package",
+                row, wanted[row], got[row]
+            )),
+        }
+    }
+
     /// A table in all eight settings.
     pub fn table(&mut self, table: &Table, rooms: Rooms) -> Result<(), Difference> {
         let input = Input::of(table);
@@ -197,9 +239,12 @@ impl Comparer {
 
     /// A table in one setting: what the reference answers where there is room for all, then less and more room.
     pub fn setting(&mut self, switches: Switches, input: &Input, rooms: Rooms, turn: usize) -> Result<(), Difference> {
-        let whole = usize::MAX;
-        let wanted = reference::convert(of_reference(switches), &input.rows, &input.names, &input.text, whole, whole);
-        let plenty = Room { rows: input.rows.len() * 2 + 64, bindings: input.rows.len() / 4 + 64 };
+        let found = reference::convert_with_origins(of_reference(switches), input.rows(), input.names(), input.text());
+        let (wanted, origins) = match found {
+            Ok((result, origins)) => (Ok(result), origins),
+            Err(refused) => (Err(refused), Vec::new()),
+        };
+        let plenty = Room { rows: input.rows().len() * 2 + 64, bindings: input.rows().len() / 4 + 64 };
         let exact = match &wanted {
             Ok(r) => Room { rows: r.rows.len() * 16, bindings: r.bindings.len() * 12 },
             Err(_) => {
@@ -211,10 +256,11 @@ impl Comparer {
             }
         };
         self.against(switches, input, exact, &wanted)?;
+        self.origins(switches, input, &origins)?;
         let short_rows = Room { rows: exact.rows - 1, ..exact };
         let short_bindings = Room { bindings: exact.bindings.saturating_sub(1), ..exact };
         // From this much room on the library need not count the rows first.
-        let ample = Room { rows: 8 * input.rows.len() + 11 * 16 * (exact.bindings / 12), ..exact };
+        let ample = Room { rows: 8 * input.rows().len() + 11 * 16 * (exact.bindings / 12), ..exact };
         if rooms == Rooms::Some {
             let short = if turn % 2 == 0 || exact.bindings == 0 { short_rows } else { short_bindings };
             self.one(switches, input, short)?;

@@ -18,6 +18,7 @@ pub struct Tally {
     pub calls: u64,
     pub answers: [u64; 12],
     pub with_bindings: u64,
+    pub origins: u64,
 }
 
 struct Run {
@@ -48,8 +49,8 @@ impl Run {
     }
 
     fn tally(self) -> Tally {
-        let c = self.comparer;
-        Tally { tables: self.tables, calls: c.calls, answers: c.answers, with_bindings: c.with_bindings }
+        let Comparer { calls, answers, with_bindings, origins, .. } = self.comparer;
+        Tally { tables: self.tables, calls, answers, with_bindings, origins }
     }
 }
 
@@ -850,9 +851,9 @@ pub fn base_texts(seed: u64, calls: u64) -> Result<Tally, Found> {
         }
         let number = random.below(count + 2) as u32;
         let room = random.below(40);
-        base.one(number, &bindings, &input.names, &input.text, room).map_err(told)?;
+        base.one(number, &bindings, input.names(), input.text(), room).map_err(told)?;
     }
-    Ok(Tally { tables: 0, calls: base.calls, answers: base.answers, with_bindings: 0 })
+    Ok(Tally { tables: 0, calls: base.calls, answers: base.answers, with_bindings: 0, origins: 0 })
 }
 
 /// A damaged copy of a table.

@@ -1,4 +1,5 @@
-//! Compares the library, over its C boundary, with the reference: every number returned and every byte lent.
+//! Compares the library, over its C boundary, with the reference: every number returned and every byte lent; and where the
+//! rows of each result come from, as the package finds it.
 //!
 //!   compare                     the fixed seed's run, which the gate makes
 //!   compare long SEED MINUTES   random tables from another seed, for about so many minutes
@@ -29,6 +30,7 @@ struct Total {
     calls: u64,
     answers: [u64; 12],
     with_bindings: u64,
+    origins: u64,
 }
 
 impl Total {
@@ -41,6 +43,7 @@ impl Total {
                 self.tables += tally.tables;
                 self.calls += tally.calls;
                 self.with_bindings += tally.with_bindings;
+                self.origins += tally.origins;
                 for (sum, n) in self.answers.iter_mut().zip(tally.answers) {
                     *sum += n;
                 }
@@ -60,6 +63,7 @@ impl Total {
             "{} tables and {} calls compared, 0 differ; {} accepted ({} with bindings)",
             self.tables, self.calls, self.answers[0], self.with_bindings
         );
+        println!("origins of the rows of {} results compared, 0 differ", self.origins);
         let refused: Vec<String> = (1..12).map(|n| format!("{}: {}", n, self.answers[n])).collect();
         println!("refused by number: {}", refused.join(", "));
     }
@@ -113,7 +117,7 @@ fn usage() -> ! {
 fn main() {
     let arguments: Vec<String> = std::env::args().skip(1).collect();
     let arguments: Vec<&str> = arguments.iter().map(String::as_str).collect();
-    let mut total = Total { tables: 0, calls: 0, answers: [0; 12], with_bindings: 0 };
+    let mut total = Total { tables: 0, calls: 0, answers: [0; 12], with_bindings: 0, origins: 0 };
     match arguments[..] {
         [] => fixed(&mut total),
         ["long", seed, minutes] => match (seed.parse(), minutes.parse()) {

@@ -22,7 +22,7 @@ struct Answer {
 
 fn answer(switches: Switches, input: &Input, room: Room) -> Answer {
     let result =
-        reference::convert(of_reference(switches), &input.rows, &input.names, &input.text, room.rows, room.bindings);
+        reference::convert(of_reference(switches), input.rows(), input.names(), input.text(), room.rows, room.bindings);
     match result {
         Ok(r) => {
             Answer { numbers: [0, 0, r.rows.len() as u32, r.bindings.len() as u32], rows: r.rows, bindings: r.bindings }

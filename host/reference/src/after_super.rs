@@ -12,26 +12,31 @@ pub struct ThisAfterSuper {
 
 fn is_super_call(expression: &Expression) -> bool {
     match expression {
-        Expression::Call(call) => matches!(call.callee, Expression::Super),
+        Expression::Call(call) => matches!(call.callee, Expression::Super { .. }),
         _ => false,
     }
 }
 
 impl ThisAfterSuper {
     fn assignment(&self) -> Expression {
+        let ident = Ident { row: ADDED, name: Name::Made(self.this_var) };
         Expression::Assign(Box::new(Assign {
+            row: ADDED,
             operator: 0,
-            target: Target::Ident(Name::Made(self.this_var)),
-            right: Expression::This,
+            target: Target { row: ADDED, place: Assigned::Ident(ident) },
+            right: Expression::This { row: ADDED },
         }))
     }
 
     pub fn visit_statements(&self, statements: &mut Vec<Statement>) {
         for index in 0..statements.len() {
             match &mut statements[index] {
-                Statement::Expression(Expression::Call(call)) if matches!(call.callee, Expression::Super) => {
+                Statement::Expression { expression: Expression::Call(call), .. }
+                    if matches!(call.callee, Expression::Super { .. }) =>
+                {
                     self.visit_expressions(&mut call.arguments);
-                    statements.insert(index + 1, Statement::Expression(self.assignment()));
+                    let expression = self.assignment();
+                    statements.insert(index + 1, Statement::Expression { row: ADDED, expression });
                     return;
                 }
                 statement => self.visit_statement(statement),
@@ -41,10 +46,10 @@ impl ThisAfterSuper {
 
     fn visit_statement(&self, statement: &mut Statement) {
         match statement {
-            Statement::Expression(e) => self.visit_expression(e),
+            Statement::Expression { expression, .. } => self.visit_expression(expression),
             Statement::Var(v) => self.visit_declarators(&mut v.declarators),
-            Statement::Return(e) => self.visit_optional(e),
-            Statement::Block { body, .. } => self.visit_statements(body),
+            Statement::Return { value, .. } => self.visit_optional(value),
+            Statement::Block(b) => self.visit_statements(&mut b.body),
             Statement::Other(h) => self.visit_held(h),
             Statement::Function(_) => {}
             Statement::Class(c) => self.visit_class(c),
@@ -81,13 +86,15 @@ impl ThisAfterSuper {
 
     fn visit_expression(&self, expression: &mut Expression) {
         if is_super_call(expression) {
-            let call = mem::replace(expression, Expression::This);
-            *expression = Expression::Sequence(vec![call, self.assignment()]);
+            let call = mem::replace(expression, Expression::This { row: ADDED });
+            let expressions = vec![call, self.assignment()];
+            *expression = Expression::Sequence(Box::new(Sequence { row: ADDED, expressions }));
             return;
         }
         match expression {
             Expression::Opaque(h) => self.visit_held(h),
-            Expression::This | Expression::Super | Expression::Ident(_) | Expression::Arguments { .. } => {}
+            Expression::This { .. } | Expression::Super { .. } => {}
+            Expression::Ident(_) | Expression::Arguments { .. } => {}
             Expression::Member(m) => self.visit_expression(&mut m.object),
             Expression::Computed(c) => {
                 self.visit_expression(&mut c.object);
@@ -102,16 +109,16 @@ impl ThisAfterSuper {
                 self.visit_expression(&mut a.right);
             }
             Expression::Arrow(a) => {
-                self.visit_declarators(&mut a.params);
+                self.visit_declarators(&mut a.params.declarators);
                 match &mut a.body {
                     ArrowBody::Expression(e) => self.visit_expression(e),
-                    ArrowBody::Body(list) => self.visit_statements(list),
+                    ArrowBody::Body(b) => self.visit_statements(&mut b.statements),
                 }
             }
             Expression::Function(_) => {}
             Expression::Class(c) => self.visit_class(c),
-            Expression::Object(parts) => {
-                for part in parts {
+            Expression::Object(o) => {
+                for part in &mut o.parts {
                     match part {
                         ObjectPart::Property(p) => {
                             self.visit_optional(&mut p.key);
@@ -121,19 +128,19 @@ impl ThisAfterSuper {
                     }
                 }
             }
-            Expression::Sequence(list) => self.visit_expressions(list),
+            Expression::Sequence(s) => self.visit_expressions(&mut s.expressions),
         }
     }
 
     fn visit_target(&self, target: &mut Target) {
-        match target {
-            Target::Ident(_) => {}
-            Target::Member(m) => self.visit_expression(&mut m.object),
-            Target::Computed(c) => {
+        match &mut target.place {
+            Assigned::Ident(_) => {}
+            Assigned::Member(m) => self.visit_expression(&mut m.object),
+            Assigned::Computed(c) => {
                 self.visit_expression(&mut c.object);
                 self.visit_expression(&mut c.key);
             }
-            Target::Opaque(h) => self.visit_held(h),
+            Assigned::Opaque(h) => self.visit_held(h),
         }
     }
 

@@ -100,7 +100,7 @@ fn make(bindings: &mut Vec<[u32; 3]>, purpose: u32, property: u32, frame: u32) -
 }
 
 fn taken(expression: &mut Expression) -> Expression {
-    mem::replace(expression, Expression::This)
+    mem::replace(expression, Expression::This { row: ADDED })
 }
 
 impl<'a> Converter<'a> {
@@ -153,10 +153,10 @@ impl Converter<'_> {
 
     fn statement(&mut self, statement: &mut Statement) {
         match statement {
-            Statement::Expression(e) => self.expression(e),
+            Statement::Expression { expression, .. } => self.expression(expression),
             Statement::Var(v) => self.declarators(&mut v.declarators),
-            Statement::Return(e) => self.optional(e),
-            Statement::Block { body, .. } => self.statements(body),
+            Statement::Return { value, .. } => self.optional(value),
+            Statement::Block(b) => self.statements(&mut b.body),
             Statement::Other(h) => self.held(h),
             Statement::Function(f) => self.function(f, false),
             Statement::Class(c) => self.class(c),
@@ -195,8 +195,8 @@ impl Converter<'_> {
         self.enter_expression(expression);
         match expression {
             Expression::Opaque(h) => self.held(h),
-            Expression::This | Expression::Super | Expression::Arguments { .. } => {}
-            Expression::Ident(name) => self.enter_identifier_reference(name),
+            Expression::This { .. } | Expression::Super { .. } | Expression::Arguments { .. } => {}
+            Expression::Ident(ident) => self.enter_identifier_reference(ident),
             Expression::Member(m) => self.expression(&mut m.object),
             Expression::Computed(c) => {
                 self.expression(&mut c.object);
@@ -213,29 +213,29 @@ impl Converter<'_> {
             Expression::Arrow(a) => self.arrow(a),
             Expression::Function(f) => self.function(f, false),
             Expression::Class(c) => self.class(c),
-            Expression::Object(parts) => {
-                for part in parts {
+            Expression::Object(o) => {
+                for part in &mut o.parts {
                     match part {
                         ObjectPart::Property(p) => self.property(p),
                         ObjectPart::Expression(e) => self.expression(e),
                     }
                 }
             }
-            Expression::Sequence(list) => self.expressions(list),
+            Expression::Sequence(s) => self.expressions(&mut s.expressions),
         }
         self.exit_expression(expression);
     }
 
     /// A target is no expression, so `enter_expression` does not see it; what stands below it is.
     fn target(&mut self, target: &mut Target) {
-        match target {
-            Target::Ident(name) => self.enter_identifier_reference(name),
-            Target::Member(m) => self.expression(&mut m.object),
-            Target::Computed(c) => {
+        match &mut target.place {
+            Assigned::Ident(ident) => self.enter_identifier_reference(ident),
+            Assigned::Member(m) => self.expression(&mut m.object),
+            Assigned::Computed(c) => {
                 self.expression(&mut c.object);
                 self.expression(&mut c.key);
             }
-            Target::Opaque(h) => self.held(h),
+            Assigned::Opaque(h) => self.held(h),
         }
     }
 
@@ -243,10 +243,10 @@ impl Converter<'_> {
         let is_async = arrow.is_async;
         self.enter_arrow_function_expression(arrow);
         self.below(Ancestor::Arrow { is_async }, |c| {
-            c.declarators(&mut arrow.params);
+            c.declarators(&mut arrow.params.declarators);
             match &mut arrow.body {
                 ArrowBody::Expression(e) => c.expression(e),
-                ArrowBody::Body(list) => c.statements(list),
+                ArrowBody::Body(b) => c.statements(&mut b.statements),
             }
         });
         self.exit_arrow_function_body();
@@ -255,11 +255,11 @@ impl Converter<'_> {
 
     fn function(&mut self, function: &mut Function, method_like: bool) {
         self.enter_function(function, method_like);
-        self.below(Ancestor::FunctionParams, |c| c.declarators(&mut function.params));
+        self.below(Ancestor::FunctionParams, |c| c.declarators(&mut function.params.declarators));
         let (is_async, is_generator) = (function.is_async, function.is_generator);
         self.below(Ancestor::FunctionBody { is_async, is_generator, method_like }, |c| {
             c.enter_function_body(is_async, is_generator, method_like);
-            c.statements(&mut function.body);
+            c.statements(&mut function.body.statements);
             c.exit_function_body();
         });
         self.exit_function(function, method_like);
@@ -332,7 +332,7 @@ impl Converter<'_> {
             this_var,
             arguments_var,
         };
-        self.insert_variable_statement_at_the_top_of_statements(&mut function.body, top, super_methods);
+        self.insert_variable_statement_at_the_top_of_statements(&mut function.body.statements, top, super_methods);
         self.constructor_super_stack.pop();
     }
 
@@ -385,8 +385,8 @@ impl Converter<'_> {
 
     fn enter_expression(&mut self, expression: &mut Expression) {
         let new = match expression {
-            Expression::This => self.get_this_identifier(),
-            Expression::Super => {
+            Expression::This { row } => self.get_this_identifier(*row),
+            Expression::Super { .. } => {
                 *last(&mut self.constructor_super_stack) = true;
                 None
             }
@@ -407,13 +407,17 @@ impl Converter<'_> {
             if self.is_async_only() || arrow.is_async {
                 return;
             }
-            let params = mem::take(&mut arrow.params);
-            let body = match mem::replace(&mut arrow.body, ArrowBody::Body(Vec::new())) {
-                ArrowBody::Body(list) => list,
-                ArrowBody::Expression(e) => vec![Statement::Return(Some(e))],
+            let row = arrow.row;
+            let params = Params { row: arrow.params.row, declarators: mem::take(&mut arrow.params.declarators) };
+            let nothing = ArrowBody::Body(Body { row: ADDED, statements: Vec::new() });
+            let body = match mem::replace(&mut arrow.body, nothing) {
+                ArrowBody::Body(body) => body,
+                ArrowBody::Expression(e) => {
+                    Body { row: ADDED, statements: vec![Statement::Return { row: ADDED, value: Some(e) }] }
+                }
             };
             *expression = Expression::Function(Box::new(Function {
-                row: 0,
+                row,
                 is_async: false,
                 is_generator: false,
                 is_constructor: false,
@@ -425,16 +429,16 @@ impl Converter<'_> {
         }
     }
 
-    fn enter_identifier_reference(&mut self, ident: &mut Name) {
+    fn enter_identifier_reference(&mut self, ident: &mut Ident) {
         if !*last(&mut self.arguments_needs_transform_stack) {
             return;
         }
-        match *ident {
+        match ident.name {
             Name::Given(n) if self.names[n as usize - 1] == b"arguments" => {
                 let frame = last(&mut self.arguments_var_stack);
                 let bindings = &mut self.bindings;
                 let row = frame.row;
-                *ident = Name::Made(*frame.made.get_or_insert_with(|| make(bindings, ARGUMENTS, 0, row)));
+                ident.name = Name::Made(*frame.made.get_or_insert_with(|| make(bindings, ARGUMENTS, 0, row)));
             }
             _ => {}
         }
@@ -443,14 +447,15 @@ impl Converter<'_> {
 
 /// What the Rust transforms.
 impl Converter<'_> {
-    fn get_this_identifier(&mut self) -> Option<Expression> {
+    fn get_this_identifier(&mut self, row: u32) -> Option<Expression> {
         if !self.is_in_this_affected_block() {
             return None;
         }
         let frame = last(&mut self.this_var_stack);
         let bindings = &mut self.bindings;
-        let row = frame.row;
-        Some(Expression::Ident(Name::Made(*frame.made.get_or_insert_with(|| make(bindings, THIS, 0, row)))))
+        let at = frame.row;
+        let name = Name::Made(*frame.made.get_or_insert_with(|| make(bindings, THIS, 0, at)));
+        Some(Expression::Ident(Ident { row, name }))
     }
 
     /// The Rust's `get_scope_id_from_this_affected_block`, without the scope.
@@ -482,10 +487,12 @@ impl Converter<'_> {
         if !*last(&mut self.super_needs_transform_stack) {
             return None;
         }
-        let (property, argument) = match expression {
-            Expression::Computed(c) if matches!(c.object, Expression::Super) => (None, Some(taken(&mut c.key))),
+        let (access, property, argument) = match expression {
+            Expression::Computed(c) if matches!(c.object, Expression::Super { .. }) => {
+                (c.row, None, Some(taken(&mut c.key)))
+            }
             Expression::Member(m) => match (&m.object, m.property) {
-                (Expression::Super, MemberName::Given(n)) => (Some(n), None),
+                (Expression::Super { .. }, MemberName::Given(n)) => (m.row, Some(n), None),
                 _ => return None,
             },
             _ => return None,
@@ -504,9 +511,9 @@ impl Converter<'_> {
             list.push(SuperMethod { binding, is_assignment, property });
             list.len() - 1
         });
-        let callee = Expression::Ident(Name::Made(list[place].binding));
+        let callee = Expression::Ident(Ident { row: ADDED, name: Name::Made(list[place].binding) });
         let arguments = argument.into_iter().chain(assign_value.map(taken)).collect();
-        Some(Expression::Call(Box::new(Call { callee, arguments })))
+        Some(Expression::Call(Box::new(Call { row: access, callee, arguments })))
     }
 
     fn transform_call_expression_for_super(&mut self, call: &mut Call) -> Option<Expression> {
@@ -515,30 +522,36 @@ impl Converter<'_> {
         }
         let object = self.transform_member_expression_for_super(&mut call.callee, None)?;
         let mut arguments = Vec::with_capacity(call.arguments.len() + 1);
-        arguments.push(Expression::This);
+        arguments.push(Expression::This { row: ADDED });
         arguments.append(&mut call.arguments);
-        let callee = Expression::Member(Box::new(Member { object, property: MemberName::Call }));
-        Some(Expression::Call(Box::new(Call { callee, arguments })))
+        let callee = Expression::Member(Box::new(Member { row: ADDED, object, property: MemberName::Call }));
+        Some(Expression::Call(Box::new(Call { row: call.row, callee, arguments })))
     }
 
     fn transform_assignment_expression_for_super(&mut self, assign: &mut Assign) -> Option<Expression> {
         if !*last(&mut self.super_needs_transform_stack) {
             return None;
         }
-        let is_super = match &assign.target {
-            Target::Member(m) => matches!(m.object, Expression::Super),
-            Target::Computed(c) => matches!(c.object, Expression::Super),
-            Target::Ident(_) | Target::Opaque(_) => false,
+        let is_super = match &assign.target.place {
+            Assigned::Member(m) => matches!(m.object, Expression::Super { .. }),
+            Assigned::Computed(c) => matches!(c.object, Expression::Super { .. }),
+            Assigned::Ident(_) | Assigned::Opaque(_) => false,
         };
         if !is_super {
             return None;
         }
-        let mut target = match mem::replace(&mut assign.target, Target::Ident(Name::Made(0))) {
-            Target::Member(m) => Expression::Member(m),
-            Target::Computed(c) => Expression::Computed(c),
-            Target::Ident(_) | Target::Opaque(_) => unreachable!("the target has a super"),
+        let nothing = Assigned::Ident(Ident { row: ADDED, name: Name::Made(0) });
+        let mut target = match mem::replace(&mut assign.target.place, nothing) {
+            Assigned::Member(m) => Expression::Member(m),
+            Assigned::Computed(c) => Expression::Computed(c),
+            Assigned::Ident(_) | Assigned::Opaque(_) => unreachable!("the target has a super"),
         };
-        self.transform_member_expression_for_super(&mut target, Some(&mut assign.right))
+        let mut new = self.transform_member_expression_for_super(&mut target, Some(&mut assign.right));
+        if let Some(Expression::Call(call)) = &mut new {
+            // It stands for the whole assignment.
+            call.row = assign.row;
+        }
+        new
     }
 }
 
@@ -561,7 +574,7 @@ impl Converter<'_> {
         let mut declarators = Vec::new();
         if let Some(binding) = top.arguments_var {
             let init = Some(Expression::Arguments { guarded: top.is_program });
-            declarators.push(Declarator { name: Name::Made(binding), init });
+            declarators.push(Declarator { row: ADDED, name: Name::Made(binding), init });
         }
         for super_method in super_methods.into_iter().flatten() {
             declarators.push(self.generate_super_method(top.row, super_method));
@@ -571,37 +584,41 @@ impl Converter<'_> {
                 ThisAfterSuper { this_var: binding }.visit_statements(statements);
                 None
             } else {
-                Some(Expression::This)
+                Some(Expression::This { row: ADDED })
             };
-            declarators.push(Declarator { name: Name::Made(binding), init });
+            declarators.push(Declarator { row: ADDED, name: Name::Made(binding), init });
         }
         if !declarators.is_empty() {
-            statements.insert(0, Statement::Var(Var { kind: 0, declarators }));
+            statements.insert(0, Statement::Var(Var { row: ADDED, kind: 0, declarators }));
         }
     }
 
     fn generate_super_method(&mut self, row: u32, super_method: SuperMethod) -> Declarator {
-        let mut params = Vec::new();
+        let mut declarators = Vec::new();
         let mut param = |purpose: u32| {
             let name = Name::Made(make(&mut self.bindings, purpose, 0, row));
-            params.push(Declarator { name, init: None });
-            Expression::Ident(name)
+            declarators.push(Declarator { row: ADDED, name, init: None });
+            Expression::Ident(Ident { row: ADDED, name })
         };
+        let object = Expression::Super { row: ADDED };
         let access = match super_method.property {
-            None => Target::Computed(Box::new(Computed { object: Expression::Super, key: param(PROP) })),
-            Some(n) => Target::Member(Box::new(Member { object: Expression::Super, property: MemberName::Given(n) })),
+            None => Assigned::Computed(Box::new(Computed { row: ADDED, object, key: param(PROP) })),
+            Some(n) => Assigned::Member(Box::new(Member { row: ADDED, object, property: MemberName::Given(n) })),
         };
         let body = if super_method.is_assignment {
             let right = param(VALUE);
-            Expression::Assign(Box::new(Assign { operator: 0, target: access, right }))
+            let target = Target { row: ADDED, place: access };
+            Expression::Assign(Box::new(Assign { row: ADDED, operator: 0, target, right }))
         } else {
             match access {
-                Target::Computed(c) => Expression::Computed(c),
-                Target::Member(m) => Expression::Member(m),
-                Target::Ident(_) | Target::Opaque(_) => unreachable!("an accessor has an access"),
+                Assigned::Computed(c) => Expression::Computed(c),
+                Assigned::Member(m) => Expression::Member(m),
+                Assigned::Ident(_) | Assigned::Opaque(_) => unreachable!("an accessor has an access"),
             }
         };
-        let arrow = Arrow { is_async: false, params, body: ArrowBody::Expression(body) };
-        Declarator { name: Name::Made(super_method.binding), init: Some(Expression::Arrow(Box::new(arrow))) }
+        let params = Params { row: ADDED, declarators };
+        let arrow = Arrow { row: ADDED, is_async: false, params, body: ArrowBody::Expression(body) };
+        let init = Some(Expression::Arrow(Box::new(arrow)));
+        Declarator { row: ADDED, name: Name::Made(super_method.binding), init }
     }
 }

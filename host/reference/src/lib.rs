@@ -4,7 +4,8 @@
 //! tables with the Rattle side. `table` reads rows and has the refusals 1, 4, 2, 3 and 5, `owners` has 6, 7 and 8, both
 //! from the request. `converter` follows the Rust: one traversal with enter and exit, and the Rust's stacks. So where
 //! the request says "from a This outward" in one sentence, this has what the Rust does, and the two readings check each
-//! other. `tree` is the tree between, `build` makes it from rows and `lay` lays it out again.
+//! other. `tree` is the tree between, `build` makes it from rows and `lay` lays it out again. Each node of the tree
+//! keeps the row that it was read from, so that `lay` can tell where each row of a result comes from.
 //!
 //! ```text
 //! rows, names, text -> table::read -> owners::check -> build -> converter -> lay -> rows
@@ -64,20 +65,53 @@ pub fn convert(
     room_rows: usize,
     room_bindings: usize,
 ) -> Result<Result01, Refused> {
-    let table = table::read(rows, names, text)?;
-    let mode = Mode::of(switches);
-    let result = if mode == Mode::Disabled {
-        Result01 { rows: table.rows.iter().map(|r| [r.kind, r.attr, r.name, r.end]).collect(), bindings: Vec::new() }
-    } else {
-        owners::check(&table, mode)?;
-        let mut program = build::program(&table.rows);
-        let bindings = converter::Converter::new(switches, &table.names).convert(&mut program);
-        Result01 { rows: lay::rows(&program), bindings }
+    let result = match converted(switches, &table::read(rows, names, text)?)? {
+        Converted::Copied(rows) => Result01 { rows, bindings: Vec::new() },
+        Converted::Tree(program, bindings) => Result01 { rows: lay::rows(&program), bindings },
     };
     if result.rows.len() > room_rows / 16 || result.bindings.len() > room_bindings / 12 {
         return refused(9, 0);
     }
     Ok(result)
+}
+
+/// The conversion with all the room that it needs, and for each row of the result the row of the table that it comes
+/// from; none where it is added.
+pub fn convert_with_origins(
+    switches: Switches,
+    rows: &[u8],
+    names: &[u8],
+    text: &[u8],
+) -> Result<(Result01, Vec<Option<u32>>), Refused> {
+    match converted(switches, &table::read(rows, names, text)?)? {
+        Converted::Copied(rows) => {
+            let origins = (0..rows.len() as u32).map(Some).collect();
+            Ok((Result01 { rows, bindings: Vec::new() }, origins))
+        }
+        Converted::Tree(program, bindings) => {
+            let (rows, origins) = lay::rows_and_origins(&program);
+            let origins = origins.into_iter().map(|row| Some(row).filter(|row| *row != tree::ADDED)).collect();
+            Ok((Result01 { rows, bindings }, origins))
+        }
+    }
+}
+
+enum Converted {
+    /// In Disabled: the rows as they are.
+    Copied(Vec<[u32; 4]>),
+    /// The tree of the result, and the bindings.
+    Tree(tree::Program, Vec<[u32; 3]>),
+}
+
+fn converted(switches: Switches, table: &table::Table) -> Result<Converted, Refused> {
+    let mode = Mode::of(switches);
+    if mode == Mode::Disabled {
+        return Ok(Converted::Copied(table.rows.iter().map(|r| [r.kind, r.attr, r.name, r.end]).collect()));
+    }
+    owners::check(table, mode)?;
+    let mut program = build::program(&table.rows);
+    let bindings = converter::Converter::new(switches, &table.names).convert(&mut program);
+    Ok(Converted::Tree(program, bindings))
 }
 
 #[cfg(test)]
@@ -110,6 +144,53 @@ mod tests {
         assert_eq!(result.bindings, [[1, 0, 0]]);
         assert_eq!(convert(ENABLED, &rows, &[], &[], 159, 12), refused(9, 0));
         assert_eq!(convert(ENABLED, &rows, &[], &[], 160, 11), refused(9, 0));
+        let (again, origins) = convert_with_origins(ENABLED, &rows, &[], &[]).unwrap();
+        assert_eq!(again, result);
+        let added = None;
+        let wanted = [Some(0), added, added, added, Some(1), Some(2), Some(3), added, added, Some(4)];
+        assert_eq!(origins, wanted);
+    }
+
+    #[test]
+    fn origins_of_rewritten_rows() {
+        const ASYNC: Switches = Switches { arrow: false, async_to_generator: true, async_generator_functions: false };
+        // class { async x() { super.x; super[this] = this; super.x(this); } }
+        let rows = [
+            [0, 0, 0, 21],
+            [20, 8, 0, 21],
+            [21, 0, 0, 21],
+            [17, 1, 0, 21],
+            [18, 0, 0, 5],
+            [19, 0, 0, 21],
+            [1, 0, 0, 9],
+            [12, 0, 1, 9],
+            [10, 0, 0, 9],
+            [1, 0, 0, 16],
+            [15, 0, 0, 16],
+            [28, 0, 0, 15],
+            [13, 0, 0, 15],
+            [10, 0, 0, 14],
+            [9, 0, 0, 15],
+            [9, 0, 0, 16],
+            [1, 0, 0, 21],
+            [14, 0, 0, 21],
+            [12, 0, 1, 20],
+            [10, 0, 0, 20],
+            [9, 0, 0, 21],
+        ];
+        let (result, origins) = convert_with_origins(ASYNC, &words(&rows.concat()), &words(&[0, 1]), b"x").unwrap();
+        // The Var has rows 6 to 24: itself, get (5), set (11), this (2). Left out are the Supers in rows 8, 13 and 19 and
+        // the Target and the Computed in rows 11 and 12.
+        let (head, rest) = (&origins[..6], &origins[25..]);
+        assert_eq!(head, (0..6).map(Some).collect::<Vec<_>>());
+        assert!(origins[6..25].iter().all(|origin| origin.is_none()));
+        let kinds: Vec<u32> = result.rows[25..].iter().map(|row| row[0]).collect();
+        assert_eq!(kinds, [1, 14, 11, 1, 14, 11, 11, 11, 1, 14, 12, 14, 11, 11, 11]);
+        let added = None;
+        let get = [Some(6), Some(7), added];
+        let set = [Some(9), Some(10), added, Some(14), Some(15)];
+        let call = [Some(16), Some(17), added, Some(18), added, added, Some(20)];
+        assert_eq!(rest, [&get[..], &set[..], &call[..]].concat());
     }
 
     #[test]
@@ -147,6 +228,11 @@ mod tests {
         ];
         let bytes = words(&rows.concat());
         let table = table::read(&bytes, &words(&[0, 1]), b"x").unwrap();
-        assert_eq!(lay::rows(&build::program(&table.rows)), rows);
+        let program = build::program(&table.rows);
+        assert_eq!(lay::rows(&program), rows);
+        // Unchanged, each row comes from itself.
+        let (laid, origins) = lay::rows_and_origins(&program);
+        assert_eq!(laid, rows);
+        assert_eq!(origins, (0..28).collect::<Vec<u32>>());
     }
 }
