@@ -148,22 +148,21 @@ impl Converted {
     /// | `this` | a captured Ident | the This |
     /// | `arguments` | a captured Ident | the Ident |
     /// | an Arrow | a Function | the Arrow; its Params from the Arrow's, and its Body from the Arrow's if that has one |
-    /// | `super.p`, `super[k]` | the Call `get()`, `get(k)` | the Member, the Computed |
-    /// | `super.p = v`, `super[k] = v` | the Call `set(v)`, `set(k, v)` | the Assign |
-    /// | `super.m(a)`, `super[k](a)` | `get().call(this, a)`, `get(k).call(this, a)` | the outer Call from the Call, the Call of `get` from the Member, the Computed |
+    /// | `super.p`, `super[k]` | the Call `get()`, `get(k)` | the Member or Computed; the Ident `get` from the Super |
+    /// | `super.p = v`, `super[k] = v` | the Call `set(v)`, `set(k, v)` | the Assign; the Ident `set` from the Member or Computed |
+    /// | `super.m(a)`, `super[k](a)` | the Call `get().call(this, a)`, `get(k).call(this, a)` | the Call; what is below it as above |
     ///
     /// What stands below them, such as `k`, `v` and `a`, comes from where it stood. Added are
     ///
     /// - the Var that goes first in a frame, with all that is in it, the accessors too;
     /// - the Body and the Return around the expression of an Arrow that becomes a Function;
-    /// - the Ident of an accessor that is called; the Member with the property `call`, and the This or captured Ident
-    ///   that is the first argument there;
+    /// - the Member with the property `call`, and the This or captured Ident that is the first argument there;
     /// - `captured = this` after a called Super, with all that is in it: as a statement, with the ExprStmt, or in a
     ///   Sequence, which is added too, while the Call in it is not.
     ///
-    /// So no two rows come from one, and the rows that they come from grow from each to the next. No row of the result
-    /// comes from the Super of a rewritten access, and of a rewritten assignment none from the Target and its Member or
-    /// Computed; every other row of the table has one that comes from it.
+    /// So no two rows come from one, and the rows that they come from grow from each to the next. Of a rewritten
+    /// assignment no row comes from the Target and from the Super; every other row of the table has one that comes from
+    /// it. `docs/FORMAT.md` tells the same to other hosts ("Which row was which").
     ///
     /// ```
     /// use thawcopper::{convert, Node, Switches, Table};
@@ -180,7 +179,7 @@ impl Converted {
     /// // the Var: two Declarators, one with Arrow, Params, Member, Super, one with This
     /// assert_eq!(origins[6..14], [None; 8]);
     /// // ExprStmt, Call, Member `call`, Call of the accessor, its Ident, the Ident of `this`
-    /// assert_eq!(origins[14..], [Some(6), Some(7), None, Some(8), None, None]);
+    /// assert_eq!(origins[14..], [Some(6), Some(7), None, Some(8), Some(9), None]);
     /// ```
     ///
     /// # Panics

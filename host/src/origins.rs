@@ -10,6 +10,7 @@ const EXPR_STMT: u32 = Kind::ExprStmt as u32;
 const VAR: u32 = Kind::Var as u32;
 const DECLARATOR: u32 = Kind::Declarator as u32;
 const THIS: u32 = Kind::This as u32;
+const SUPER: u32 = Kind::Super as u32;
 const IDENT: u32 = Kind::Ident as u32;
 const MEMBER: u32 = Kind::Member as u32;
 const COMPUTED: u32 = Kind::Computed as u32;
@@ -90,7 +91,9 @@ impl Found<'_> {
         }
         match given.kind {
             THIS => self.made(row) == Some(Use::This),
-            MEMBER | COMPUTED | ASSIGN => self.calls_accessor(row),
+            SUPER => self.is_accessor(row),
+            MEMBER | COMPUTED => self.calls_accessor(row) || self.is_accessor(row),
+            ASSIGN => self.calls_accessor(row),
             ARROW => self.is(row, FUNCTION),
             _ => false,
         }
@@ -116,7 +119,7 @@ pub fn origins(rows: &[Row], bindings: &[Binding], table: &Table) -> Vec<Option<
             added[row] = true;
             added[found.end(row)] = true;
         }
-        if added[row] || found.is_added_sequence(row) || found.is_accessor(row) {
+        if added[row] || found.is_added_sequence(row) {
             origins.push(None);
             continue;
         }
@@ -126,15 +129,18 @@ pub fn origins(rows: &[Row], bindings: &[Binding], table: &Table) -> Vec<Option<
         };
         origins.push(Some(next));
         next += 1;
-        if found.calls_accessor(row) {
-            // Its Super fell away, and before that the Target and the access of an assignment.
-            next += if given.kind == ASSIGN { 3 } else { 1 };
-        }
-        if found.is(row, FUNCTION) && given.kind == ARROW && given.attr & 2 != 0 {
+        match given.kind {
+            // The Target of a rewritten assignment fell away,
+            ASSIGN if found.calls_accessor(row) => next += 1,
+            // and the Super below it.
+            MEMBER | COMPUTED if found.is_accessor(row) => next += 1,
             // The expression is in a Body and a Return behind the Params.
-            let body = found.end(row + 1);
-            added[body] = true;
-            added[body + 1] = true;
+            ARROW if found.is(row, FUNCTION) && given.attr & 2 != 0 => {
+                let body = found.end(row + 1);
+                added[body] = true;
+                added[body + 1] = true;
+            }
+            _ => {}
         }
     }
     assert!(table.row(next).is_none(), "row {} of this table has no row in the result", next);

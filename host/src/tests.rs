@@ -371,27 +371,27 @@ fn origins_of_super() {
     let value = || Node::ident("v");
     // Each as the one statement of a method: its rows from 7 on in the table, and behind the Var in the result.
     let cases = [
-        (dot(), vec![8], vec![(Call, Some(7)), (Ident, None)]),
-        (at(), vec![8], vec![(Call, Some(7)), (Ident, None), (Ident, Some(9))]),
-        (Node::assign(dot(), value()), vec![8, 9, 10], vec![(Call, Some(7)), (Ident, None), (Ident, Some(11))]),
+        (dot(), vec![], vec![(Call, Some(7)), (Ident, Some(8))]),
+        (at(), vec![], vec![(Call, Some(7)), (Ident, Some(8)), (Ident, Some(9))]),
+        (Node::assign(dot(), value()), vec![8, 10], vec![(Call, Some(7)), (Ident, Some(9)), (Ident, Some(11))]),
         (
             Node::assign(at(), value()),
-            vec![8, 9, 10],
-            vec![(Call, Some(7)), (Ident, None), (Ident, Some(11)), (Ident, Some(12))],
+            vec![8, 10],
+            vec![(Call, Some(7)), (Ident, Some(9)), (Ident, Some(11)), (Ident, Some(12))],
         ),
         (
             Node::call(dot(), [value()]),
-            vec![9],
-            vec![(Call, Some(7)), (Member, None), (Call, Some(8)), (Ident, None), (Ident, None), (Ident, Some(10))],
+            vec![],
+            vec![(Call, Some(7)), (Member, None), (Call, Some(8)), (Ident, Some(9)), (Ident, None), (Ident, Some(10))],
         ),
         (
             Node::call(at(), [value()]),
-            vec![9],
+            vec![],
             vec![
                 (Call, Some(7)),
                 (Member, None),
                 (Call, Some(8)),
-                (Ident, None),
+                (Ident, Some(9)),
                 (Ident, Some(10)),
                 (Ident, None),
                 (Ident, Some(11)),
@@ -410,7 +410,9 @@ fn origins_of_super() {
     let part = Node::opaque([Node::target(at())]);
     origins(&Switches::ASYNC, &in_async_method([Node::statement(part)]), &[]);
     let nested = Node::computed(Node::super_(), Node::computed(Node::super_(), dot()));
-    origins(&Switches::ASYNC, &in_async_method([Node::statement(nested)]), &[8, 10, 12]);
+    origins(&Switches::ASYNC, &in_async_method([Node::statement(nested)]), &[]);
+    let nested = Node::assign(Node::computed(Node::super_(), Node::assign(dot(), at())), dot());
+    origins(&Switches::ASYNC, &in_async_method([Node::statement(nested)]), &[8, 10, 12, 14]);
 }
 
 #[test]

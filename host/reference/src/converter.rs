@@ -487,12 +487,13 @@ impl Converter<'_> {
         if !*last(&mut self.super_needs_transform_stack) {
             return None;
         }
-        let (access, property, argument) = match expression {
-            Expression::Computed(c) if matches!(c.object, Expression::Super { .. }) => {
-                (c.row, None, Some(taken(&mut c.key)))
-            }
+        let (access, object, property, argument) = match expression {
+            Expression::Computed(c) => match c.object {
+                Expression::Super { row } => (c.row, row, None, Some(taken(&mut c.key))),
+                _ => return None,
+            },
             Expression::Member(m) => match (&m.object, m.property) {
-                (Expression::Super { .. }, MemberName::Given(n)) => (m.row, Some(n), None),
+                (Expression::Super { row }, MemberName::Given(n)) => (m.row, *row, Some(n), None),
                 _ => return None,
             },
             _ => return None,
@@ -511,7 +512,9 @@ impl Converter<'_> {
             list.push(SuperMethod { binding, is_assignment, property });
             list.len() - 1
         });
-        let callee = Expression::Ident(Ident { row: ADDED, name: Name::Made(list[place].binding) });
+        // The accessor stands for what is assigned to, or for the object of what is read.
+        let row = if is_assignment { access } else { object };
+        let callee = Expression::Ident(Ident { row, name: Name::Made(list[place].binding) });
         let arguments = argument.into_iter().chain(assign_value.map(taken)).collect();
         Some(Expression::Call(Box::new(Call { row: access, callee, arguments })))
     }
@@ -548,7 +551,7 @@ impl Converter<'_> {
         };
         let mut new = self.transform_member_expression_for_super(&mut target, Some(&mut assign.right));
         if let Some(Expression::Call(call)) = &mut new {
-            // It stands for the whole assignment.
+            // The call stands for the whole assignment.
             call.row = assign.row;
         }
         new

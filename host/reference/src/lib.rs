@@ -179,17 +179,17 @@ mod tests {
             [9, 0, 0, 21],
         ];
         let (result, origins) = convert_with_origins(ASYNC, &words(&rows.concat()), &words(&[0, 1]), b"x").unwrap();
-        // The Var has rows 6 to 24: itself, get (5), set (11), this (2). Left out are the Supers in rows 8, 13 and 19 and
-        // the Target and the Computed in rows 11 and 12.
+        // The Var has rows 6 to 24: itself, get (5), set (11), this (2). Left out are the Target and the Super of the
+        // assignment, in rows 11 and 13.
         let (head, rest) = (&origins[..6], &origins[25..]);
         assert_eq!(head, (0..6).map(Some).collect::<Vec<_>>());
         assert!(origins[6..25].iter().all(|origin| origin.is_none()));
         let kinds: Vec<u32> = result.rows[25..].iter().map(|row| row[0]).collect();
         assert_eq!(kinds, [1, 14, 11, 1, 14, 11, 11, 11, 1, 14, 12, 14, 11, 11, 11]);
         let added = None;
-        let get = [Some(6), Some(7), added];
-        let set = [Some(9), Some(10), added, Some(14), Some(15)];
-        let call = [Some(16), Some(17), added, Some(18), added, added, Some(20)];
+        let get = [Some(6), Some(7), Some(8)];
+        let set = [Some(9), Some(10), Some(12), Some(14), Some(15)];
+        let call = [Some(16), Some(17), added, Some(18), Some(19), added, Some(20)];
         assert_eq!(rest, [&get[..], &set[..], &call[..]].concat());
     }
 
