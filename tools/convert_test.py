@@ -242,6 +242,9 @@ def stored_sheets():
     head = b"\n".join([SWITCHES, b"1 0 0", NAMES]) + b"\n"
     status, out, said = run(["./convert"], head + b"a\n" * 3000000)
     check("a sheet of 6 MB: the status", (status, said.count("\n")), (1, 1))
+    for what, lines, last in [("first line", b"", 1), ("switches", SWITCHES + b"\n", 2), ("first row", head + b"kind attr name end\n", 5)]:
+        status, out, said = run(["bash", "-c", "{ printf %s \"$1\"; cat /dev/zero; } | ./convert", "bash", lines])
+        check("a %s without end" % what, (status, out.split(b"\n")[1], said.count("line %d " % last)), (1, b"12 %d 0 0" % last, 1))
     status, out, said = run(["bash", "-c", "yes | ./convert"])
     check("a sheet without end", (status, out[:36], said), (
         1, b"refusal place rows bindings\n12 1 0 0", "./convert: standard input: refusal 12: line 1 is `y`: %s\n" % FIRST))

@@ -6,6 +6,7 @@ use converter::convert;
 use form::Form;
 use form::begin;
 use form::faulty_line;
+use form::is_settled;
 use form::take_piece;
 use parser::LONGEST;
 use parser::Parsed;
@@ -172,7 +173,7 @@ fn answer_long(form: Form, front: &[u8], out: &mut [u8]) -> usize
 const MOST_PIECES: usize = 32767;
 
 // The answer to a text of which the room has the first piece and is full: piece after piece, to its end or to
-// a faulty line, which no later piece can change (`fault-stays`). Of a text that does not end in so many pieces
+// where no later piece can change what is told (`settled-stays`). Of a text that does not end in so many pieces
 // the line that it has come to is told.
 fn answer_pieces(input: &mut [u8], out: &mut [u8]) -> usize
     requires { ⌜ (length (now input) ≡ 131073) × (131072 ≤ length (now out)) ⌝ }
@@ -182,7 +183,7 @@ fn answer_pieces(input: &mut [u8], out: &mut [u8]) -> usize
     let mut form = take_piece(begin(), &mut front, input);
     let mut pieces: usize = 1;
     while pieces < MOST_PIECES {
-        if form.part == 0 {
+        if is_settled(form.part, form.count) {
             return turn_away(12, form.line as u32, out);
         }
         let n = io::read_full(0, input);

@@ -4,7 +4,7 @@ use mathlib.Core.Bool.{Bool, true, false, cond}
 use mathlib.Core.List.{List, [], _∷_, _++_}
 use Prim.Native.Nat.{ℕ, suc, _+_, _≤_, _<_}
 use native.Mathlib.Omega.{arith}
-use lib.ListN.{length, take}
+use lib.ListN.{length, take, length-append}
 use lib.Seq.{take-all, take-append-le, length-take-le}
 use lib.Dec.{eqb, ltb}
 use borrow.Author.Tests.{ltb-true, ltb-false, le-ltb, ne-eqb}
@@ -32,10 +32,6 @@ unfolding glue
 glue-push [] c ls = refl
 glue-push (b ∷ cs) c ls = ap (push b) (glue-push cs c ls)
 
-length-one : (cs : List ℕ) (c : ℕ) → length (cs ++ (c ∷ [])) ≡ suc (length cs)
-length-one [] c = refl
-length-one (b ∷ cs) c = ap suc (length-one cs c)
-
 -- the first 44 bytes of a line and one more
 kept-front : (c : ℕ) (cur : List ℕ) → kept c (take 44 cur) ≡ take 44 (cur ++ (c ∷ []))
 kept-front c cur = go (ltb (length cur) 44) refl
@@ -43,7 +39,7 @@ kept-front c cur = go (ltb (length cur) 44) refl
     go : (b : Bool) → ltb (length cur) 44 ≡ b → kept c (take 44 cur) ≡ take 44 (cur ++ (c ∷ []))
     go true q =
         let h : length cur < 44 = ltb-true _ _ q in
-        rw (take-all 44 cur (omega arith), q) (sym (take-all 44 (cur ++ (c ∷ [])) (omega (arith, length-one cur c))))
+        rw (take-all 44 cur (omega arith), q) (sym (take-all 44 (cur ++ (c ∷ [])) (omega (arith, length-append cur (c ∷ [])))))
     go false q =
         let h : 44 ≤ length cur = ltb-false _ _ q in
         let t : length (take 44 cur) ≡ 44 = length-take-le 44 cur h in

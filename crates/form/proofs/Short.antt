@@ -7,7 +7,7 @@ use native.Mathlib.Omega.{arith}
 use lib.ListN.{length, take}
 use lib.Seq.{take-all, length-take-le}
 use lib.Dec.{ltb, leb, eqb}
-use borrow.Author.Tests.{ltb-false, leb-true, leb-false, eqb-false}
+use borrow.Author.Tests.{ltb-false, leb-true, leb-false, eqb-true, eqb-false, ne-eqb}
 use Rattle.fields.specs.Headers.{switchHeader, nameHeader, rowHeader}
 use Rattle.fields.specs.Fields.{push, split, fields, digitsOf, number, rowWords, rowOf, sameBytes, switchesOk}
 use Rattle.fields.specs.declared.Number.{Number}
@@ -139,7 +139,17 @@ long-wanted p l h =
     all-false (eqb p 1) (eqb p 2) (eqb p 3) (sameBytes l switchHeader) (switchesOk l) (sameBytes l nameHeader) (sameBytes l rowHeader)
     (same-lengths l switchHeader (λ e. omega arith)) (switches-short l (λ e. omega arith)) (same-lengths l nameHeader (λ e. omega arith)) (same-lengths l rowHeader (λ e. omega arith))
 
--- so the first 44 bytes of a line say what the line says
+-- so where a name is not asked for it is faulty
+pub long-ends : (p k n : ℕ) (l : List ℕ) → 44 ≤ length l → (p ≡ 4 → ⊥) → ends (stand p k n) l ≡ stand 0 k n
+unfolding ends
+long-ends p k n l h q = rw (long-wanted p l h, long-row l h, ne-eqb p 4 q) (go (eqb p 0) refl (eqb p 5))
+  where
+    go : (a : Bool) → eqb p 0 ≡ a → (b : Bool) → cond a (stand p k n) (cond b (stand 0 k n) (stand 0 k n)) ≡ stand 0 k n
+    go true e b = ap (λ (x : ℕ). stand x k n) (eqb-true p 0 e)
+    go false e true = refl
+    go false e false = refl
+
+-- and the first 44 bytes of a line say what the line says
 pub front-same : (x : Stand) (l : List ℕ) → ends x (take 44 l) ≡ ends x l
 unfolding ends
 front-same (stand p k n) l = go (leb (length l) 44) refl

@@ -1,11 +1,13 @@
 -- What is told line by line is the first faulty or missing line of the sheet. Assumes nothing.
 use mathlib.Core.Path.{_≡_, refl, ap, _∙_}
-use mathlib.Core.Bool.{Bool, true, false, cond}
+use mathlib.Core.Bool.{Bool, true, false, cond, false≢true}
 use mathlib.Core.List.{List, [], _∷_}
-use Prim.Native.Nat.{ℕ, suc, _+_}
+use Prim.Native.Nat.{ℕ, suc, _+_, _≤_}
 use native.Mathlib.Omega.{arith}
 use lib.ListN.{length, take}
+use lib.Seq.{length-take-le}
 use lib.Dec.{eqb, leb}
+use borrow.Author.Tests.{eqb-true, eqb-false, ne-eqb, le-ltb, leb-true}
 use Rattle.steps.specs.Mode.{Switches}
 use Rattle.fields.specs.Headers.{switchHeader, nameHeader, rowHeader}
 use Rattle.fields.specs.Fields.{lines, fields, rowOf, sameBytes, switchesOk}
@@ -15,7 +17,8 @@ use Rattle.parser.specs.Parse.{Read.faulty, isRow, rowsFrom, hasRows, namesIn, 
 use Rattle.parser.specs.declared.Lines.{Lines}
 use Rattle.parser.specs.declared.Lines.the-variants.{Count, Wrong}
 use Rattle.form.specs.declared.Form.{Form}
-use Rattle.form.specs.Form.{Stand.stand, spelled, wanted, ends, over, told, faultIn, kept, step, scan, start, close, pointOf}
+use Rattle.form.specs.Form.{Stand.stand, spelled, wanted, ends, over, told, faultIn, kept, step, scan, start, close, settled, pointOf, Fits}
+use Rattle.form.proofs.Short.{long-ends}
 use Rattle.form.proofs.Scanning.{text-lines}
 
 -- a faulty line stays
@@ -117,5 +120,25 @@ faulty-at (c ∷ s) k n cur = go (eqb c 10) (faulty-at s k n)
     go true ih = ih []
     go false ih = ih (kept c cur)
 
-pub fault-stays : (f : Form) (front s : List ℕ) → f .part ≡ 0 → told (close (scan (pointOf f front) s)) ≡ f .line
-fault-stays f front s q = rw q (faulty-at s (f .line) (f .rows) (take (f .count) front))
+-- nor once a line is too long for what is asked for
+long-at : (s : List ℕ) (p k n : ℕ) (cur : List ℕ) → 44 ≤ length cur → (p ≡ 4 → ⊥) → told (close (scan (record { at = stand p k n; cur = cur }) s)) ≡ k
+unfolding told close scan step
+long-at [] p k n cur h q = rw (ne-eqb (length cur) 0 (λ e. omega arith), long-ends p k n cur h q)
+long-at (c ∷ s) p k n cur h q = go (eqb c 10) (long-at s p k n cur h q)
+  where
+    go : (b : Bool) → told (close (scan (record { at = stand p k n; cur = cur }) s)) ≡ k
+        → told (close (scan (cond b (record { at = ends (stand p k n) cur; cur = [] }) (record { at = stand p k n; cur = kept c cur })) s)) ≡ k
+    go true ih = rw (long-ends p k n cur h q) (faulty-at s k n [])
+    go false ih = rw (le-ltb (length cur) 44 h) ih
+
+pub settled-stays : (f : Form) (front s : List ℕ) → Fits f front → settled (f .part) (f .count) ≡ true → told (close (scan (pointOf f front) s)) ≡ f .line
+unfolding settled
+settled-stays f front s w h = go (eqb (f .part) 0) refl (eqb (f .part) 4) refl h
+  where
+    go : (a : Bool) → eqb (f .part) 0 ≡ a → (b : Bool) → eqb (f .part) 4 ≡ b → cond a true (cond b false (leb 44 (f .count))) ≡ true
+        → told (close (scan (pointOf f front) s)) ≡ f .line
+    go true e b d h = rw (eqb-true (f .part) 0 e) (faulty-at s (f .line) (f .rows) (take (f .count) front))
+    go false e true d h = absurd (false≢true h)
+    go false e false d h =
+        let t = length-take-le (f .count) front (omega (arith, w .low, w .room)) in
+        long-at s (f .part) (f .line) (f .rows) (take (f .count) front) (omega (arith, leb-true 44 (f .count) h)) (eqb-false (f .part) 4 d)

@@ -75,6 +75,10 @@ start = record { at = stand 1 1 0; cur = [] }
 unfoldable pub close : Point → Stand
 close x = cond (eqb (length (x .cur)) 0) (x .at) (ends (x .at) (x .cur))
 
+-- no later byte changes what is told: the line is faulty, or has bytes enough to be no row, no switches and no header, where a name is not asked for
+unfoldable pub settled : (part count : ℕ) → Bool
+settled p c = cond (eqb p 0) true (cond (eqb p 4) false (leb 44 c))
+
 -- as the code has it: the line's first bytes stand at the front of some that are lent
 abbrev pub standOf : Form → Stand
 standOf f = stand (f .part) (f .line) (f .rows)

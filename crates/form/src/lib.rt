@@ -10,7 +10,7 @@ ghost use mathlib.Core.Path.{_≡_};
 ghost use Prim.Native.Nat.{ℕ, _+_, _≤_, _<_, _^_};
 ghost use lib.ListN.{length, take};
 ghost use Rattle.fields.specs.Fields.{fields, rowOf};
-ghost use Rattle.form.specs.Form.{spelled, wanted, told, step, scan, close, standOf, pointOf, Fits, Ended};
+ghost use Rattle.form.specs.Form.{spelled, wanted, told, settled, step, scan, close, standOf, pointOf, Fits, Ended};
 
 const NEWLINE: u8 = 10;
 
@@ -141,6 +141,20 @@ pub fn take_piece(form: Form, front: &mut [u8], piece: &[u8]) -> Form
         i += 1;
     }
     at
+}
+
+// Whether no later byte can change what is told: the line is faulty already, or too long for any but a name
+// (`settled-stays`).
+pub fn is_settled(part: usize, count: usize) -> bool
+    ensures { λ r. ⌜ r ≡ settled part count ⌝ }
+{
+    if part == 0 {
+        return true;
+    }
+    if part == 4 {
+        return false;
+    }
+    KEPT <= count
 }
 
 // The text ends: its first faulty or missing line, or 0 where it is in the form.

@@ -10,6 +10,7 @@ use Rattle.convert.proofs.answer_pieces.Lts as lts
 use Rattle.convert.proofs.answer_long.Reads as answer-long-reads
 use Rattle.convert.proofs.turn_away.Reads as turn-away-reads
 use Rattle.form.proofs.begin.Reads as begin-reads
+use Rattle.form.proofs.is_settled.Reads as is-settled-reads
 use Rattle.form.proofs.take_piece.Reads as take-piece-reads
 use Rattle.io.proofs.read_full.Reads as read-full-reads
 
@@ -30,6 +31,9 @@ take-piece-requires c κs = search needs
 
 loop-holds : tie.Need-loop-holds Inv-loop μ-loop
 loop-holds c = search needs
+
+is-settled-requires : tie.Need-is-settled-requires Inv-loop μ-loop
+is-settled-requires c κs = search needs
 
 cast-turn-away : tie.Need-cast-turn-away Inv-loop μ-loop
 cast-turn-away c = search needs
@@ -110,6 +114,7 @@ answer-pieces-spec =
     slice-aggregate-take-piece
     take-piece-requires
     loop-holds
+    is-settled-requires
     cast-turn-away
     turn-away-requires
     same-length
