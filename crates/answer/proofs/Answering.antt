@@ -44,15 +44,53 @@ not-zero (FieldHolds row) h = absurd (omega arith)
 not-zero (NamedArguments row) h = absurd (omega arith)
 
 -- what both checks leave is accepted: k and j are the numbers of their answers
-pub passes : (w : Switches) (rows names text : List ℕ) (c : Checked) (k : ℕ) (r : Refused) (j : ℕ) → c ≡ checked 16384 128 rows names text → k ≡ checks.numberOf c → k ≡ 0
-    → r ≡ turnedAway (namesOf names text) w (table rows) → j ≡ turns.numberOf r → j ≡ 0 → Accepted 16384 128 w rows names text
-passes w rows names text c k r j qc qk zk qr qj zj = accepted w rows names text 16384 128 (sym qc ∙ sound-zero c (sym qk ∙ zk)) (sym qr ∙ not-zero r (sym qj ∙ zj))
+pub passes : (rowLimit depthLimit : ℕ) (w : Switches) (rows names text : List ℕ) (c : Checked) (k : ℕ) (r : Refused) (j : ℕ) → c ≡ checked rowLimit depthLimit rows names text → k ≡ checks.numberOf c → k ≡ 0
+    → r ≡ turnedAway (namesOf names text) w (table rows) → j ≡ turns.numberOf r → j ≡ 0 → Accepted rowLimit depthLimit w rows names text
+passes rowLimit depthLimit w rows names text c k r j qc qk zk qr qj zj = accepted w rows names text rowLimit depthLimit (sym qc ∙ sound-zero c (sym qk ∙ zk)) (sym qr ∙ not-zero r (sym qj ∙ zj))
 
 -- a refusal writes nothing
 refusal-answers : (number place : ℕ) (outRows outBindings : List ℕ) → Answers (refused number place) number place 0 0 outRows outRows outBindings outBindings
 unfolding bytesOf
 refusal-answers number place outRows outBindings = record { numbered = refl; placed = refl; counted = refl; listed = refl; rows-written = refl; bindings-written = refl }
 
+-- an answer whose outcome is a refusal
+as-refused : (o : Outcome) (outRows outBindings : List ℕ) (number place : ℕ) → o ≡ refused number place → Answers o number place 0 0 outRows outRows outBindings outBindings
+as-refused o outRows outBindings number place q =
+    subst (λ (x : Outcome). Answers x number place 0 0 outRows outRows outBindings outBindings) (sym q) (refusal-answers number place outRows outBindings)
+
+-- 1, 4, 2, 3 and 5
+unless-sound : (c : Checked) (other : Outcome) → (checks.numberOf c ≡ 0 → ⊥) → unlessRefused c other ≡ refused (checks.numberOf c) (checks.placeFor c)
+unless-sound Sound other n = absurd (n refl)
+unless-sound Malformed other n = refl
+unless-sound (BadName name) other n = refl
+unless-sound (BadRow class row) other n = refl
+unless-sound (TooDeep row) other n = refl
+unless-sound (MadeBinding row) other n = refl
+
+-- 6, 7 and 8
+unless-not : (r : Refused) (other : Outcome) → (turns.numberOf r ≡ 0 → ⊥) → unlessTurned r other ≡ refused (turns.numberOf r) (turns.placeFor r)
+unless-not Not other n = absurd (n refl)
+unless-not (SuperNotAllowed row) other n = refl
+unless-not (FieldHolds row) other n = refl
+unless-not (NamedArguments row) other n = refl
+
+-- under any limits
+module _ (rowLimit depthLimit : ℕ) (w : Switches) (rows names text outRows outBindings : List ℕ) where
+  abbrev U : Outcome
+  U = outcome rowLimit depthLimit w rows names text (lentRoom outRows outBindings)
+
+  pub unsound : (c : Checked) → c ≡ checked rowLimit depthLimit rows names text → (checks.numberOf c ≡ 0 → ⊥) → Answers U (checks.numberOf c) (checks.placeFor c) 0 0 outRows outRows outBindings outBindings
+  unfolding outcome
+  unsound c q n = as-refused U outRows outBindings (checks.numberOf c) (checks.placeFor c) (rw (← q) (unless-sound c _ n))
+
+  pub turned : checked rowLimit depthLimit rows names text ≡ Sound → (r : Refused) → r ≡ turnedAway (namesOf names text) w (table rows) → (turns.numberOf r ≡ 0 → ⊥)
+      → Answers U (turns.numberOf r) (turns.placeFor r) 0 0 outRows outRows outBindings outBindings
+  unfolding outcome
+  turned s r q n =
+      as-refused U outRows outBindings (turns.numberOf r) (turns.placeFor r)
+      (rw s (sym (turned-outcome w rows names text _) ∙ ap (λ (x : Refused). unlessTurned x (within (lentRoom outRows outBindings) (steps (namesOf names text) w (table rows)))) (sym q) ∙ unless-not r _ n))
+
+-- under the print room's
 module _ (w : Switches) (rows names text outRows outBindings : List ℕ) where
   abbrev O : Outcome
   O = outcomeOf w rows names text outRows outBindings
@@ -60,42 +98,11 @@ module _ (w : Switches) (rows names text outRows outBindings : List ℕ) where
   abbrev R : Result
   R = steps (namesOf names text) w (table rows)
 
-  -- an answer whose outcome is known
-  as-refused : (number place : ℕ) → O ≡ refused number place → Answers O number place 0 0 outRows outRows outBindings outBindings
-  as-refused number place q = subst (λ (o : Outcome). Answers o number place 0 0 outRows outRows outBindings outBindings) (sym q) (refusal-answers number place outRows outBindings)
-
-  -- 1, 4, 2, 3 and 5
-  unless-sound : (c : Checked) (other : Outcome) → (checks.numberOf c ≡ 0 → ⊥) → unlessRefused c other ≡ refused (checks.numberOf c) (checks.placeFor c)
-  unless-sound Sound other n = absurd (n refl)
-  unless-sound Malformed other n = refl
-  unless-sound (BadName name) other n = refl
-  unless-sound (BadRow class row) other n = refl
-  unless-sound (TooDeep row) other n = refl
-  unless-sound (MadeBinding row) other n = refl
-
-  pub unsound : (c : Checked) → c ≡ checked 16384 128 rows names text → (checks.numberOf c ≡ 0 → ⊥) → Answers O (checks.numberOf c) (checks.placeFor c) 0 0 outRows outRows outBindings outBindings
-  unfolding outcome
-  unsound c q n = as-refused (checks.numberOf c) (checks.placeFor c) (rw (← q) (unless-sound c _ n))
-
-  -- 6, 7 and 8
-  unless-not : (r : Refused) (other : Outcome) → (turns.numberOf r ≡ 0 → ⊥) → unlessTurned r other ≡ refused (turns.numberOf r) (turns.placeFor r)
-  unless-not Not other n = absurd (n refl)
-  unless-not (SuperNotAllowed row) other n = refl
-  unless-not (FieldHolds row) other n = refl
-  unless-not (NamedArguments row) other n = refl
-
-  pub turned : checked 16384 128 rows names text ≡ Sound → (r : Refused) → r ≡ turnedAway (namesOf names text) w (table rows) → (turns.numberOf r ≡ 0 → ⊥)
-      → Answers O (turns.numberOf r) (turns.placeFor r) 0 0 outRows outRows outBindings outBindings
-  unfolding outcome
-  turned s r q n =
-      as-refused (turns.numberOf r) (turns.placeFor r)
-      (rw s (sym (turned-outcome w rows names text _) ∙ ap (λ (x : Refused). unlessTurned x (within (lentRoom outRows outBindings) R)) (sym q) ∙ unless-not r _ n))
-
   module _ (A : Accepted 16384 128 w rows names text) where
     -- 9
     full : (leb (size (R .rows)) (length outRows / 16) && leb (length (R .bindings)) (length outBindings / 12)) ≡ false → Answers O 9 0 0 0 outRows outRows outBindings outBindings
     unfolding outcome within
-    full q = as-refused 9 0 (rw (A .sound, A .six-none, A .seven-none, A .eight-none, q))
+    full q = as-refused O outRows outBindings 9 0 (rw (A .sound, A .six-none, A .seven-none, A .eight-none, q))
 
     pub full-rows : (total : ℕ) → total ≡ size (R .rows) → length outRows / 16 < total → Answers O 9 0 0 0 outRows outRows outBindings outBindings
     full-rows total q l = full (rw (lt-leb (size (R .rows)) (length outRows / 16) (omega arith)))

@@ -1,4 +1,4 @@
--- Demand 3 of the bytes that are written: whatever answers as it should keeps the owners. Assumes nothing.
+-- Demand 3 of the bytes that are written: whatever answers as it should keeps the owners, whatever the limits. Assumes nothing.
 use mathlib.Core.Path.{_≡_, refl, sym, ap, ap₂, subst, _∙_}
 use mathlib.Core.Bool.{Bool, true, false, cond, _&&_}
 use mathlib.Core.List.{List, [], _∷_}
@@ -27,7 +27,7 @@ use Rattle.steps.proofs.Acceptance.{Converted, converts, owner-rule}
 use Rattle.output.specs.Output.{le32}
 use Rattle.output.specs.Bytes.{bytesOf}
 use Rattle.output.proofs.Placing.{length-bytes}
-use Rattle.answer.specs.Converting.{lentRoom, outcomeOf, atFront, Answers, recordsIn, resultIn, KeepsOwners}
+use Rattle.answer.specs.Converting.{lentRoom, atFront, Answers, recordsIn, resultIn, KeepsOwners}
 
 -- the bytes of words read back as those words
 words-back : (ws : List ℕ) → words (bytesOf ws) ≡ ws
@@ -70,11 +70,14 @@ room-numbered : (b : Bool) (ws vs : List ℕ) → Numbered (cond b (converted ws
 room-numbered true ws vs = tt
 room-numbered false ws vs = λ q. omega arith
 
-module _ (w : Switches) (rows names text outRows outBindings : List ℕ) where
-  outcome-numbered : Numbered (outcomeOf w rows names text outRows outBindings)
+module _ (rowLimit depthLimit : ℕ) (w : Switches) (rows names text outRows outBindings : List ℕ) where
+  abbrev O : Outcome
+  O = outcome rowLimit depthLimit w rows names text (lentRoom outRows outBindings)
+
+  outcome-numbered : Numbered O
   unfolding outcome within
   outcome-numbered =
-      checked-numbered (checked 16384 128 rows names text) _
+      checked-numbered (checked rowLimit depthLimit rows names text) _
       (found-numbered 6 (six w (table rows)) _ (λ q. omega arith)
       (found-numbered 7 (seven w (table rows)) _ (λ q. omega arith)
       (found-numbered 8 (eight (namesOf names text) w (table rows)) _ (λ q. omega arith)
@@ -85,10 +88,10 @@ module _ (w : Switches) (rows names text outRows outBindings : List ℕ) where
 
   module _ (number place n m : ℕ) (outRows′ outBindings′ : List ℕ) where
     -- what stands at the front reads back as the result
-    read-result : (ws bs : List ℕ) → outcomeOf w rows names text outRows outBindings ≡ converted ws bs → Answers (converted ws bs) number place n m outRows outRows′ outBindings outBindings′
+    read-result : (ws bs : List ℕ) → O ≡ converted ws bs → Answers (converted ws bs) number place n m outRows outRows′ outBindings outBindings′
         → resultIn n m outRows′ outBindings′ ≡ steps (namesOf names text) w (table rows)
     read-result ws bs q a =
-        let C : Converted 16384 128 w rows names text (lentRoom outRows outBindings) ws bs = converts 16384 128 w rows names text (lentRoom outRows outBindings) ws bs q in
+        let C : Converted rowLimit depthLimit w rows names text (lentRoom outRows outBindings) ws bs = converts rowLimit depthLimit w rows names text (lentRoom outRows outBindings) ws bs q in
         let R : Result = steps (namesOf names text) w (table rows) in
         let u : words (take (16 * n) outRows′) ≡ flat 0 (R .rows) = front-words ws outRows outRows′ (16 * n) (omega (arith, a .counted)) (a .rows-written) ∙ C .rows-are in
         let v : words (take (12 * m) outBindings′) ≡ records (R .bindings) = front-words bs outBindings outBindings′ (12 * m) (omega (arith, a .listed)) (a .bindings-written) ∙ C .bindings-are in
@@ -97,25 +100,25 @@ module _ (w : Switches) (rows names text outRows outBindings : List ℕ) where
         (ap (λ (x : List ℕ). rowsAt x 0 n) u ∙ ap (rowsAt (flat 0 (R .rows)) 0) s ∙ read-back (R .rows))
         (ap recordsIn v ∙ records-back (R .bindings))
 
-    keeps-at : (o : Outcome) → outcomeOf w rows names text outRows outBindings ≡ o → Numbered o → Answers o number place n m outRows outRows′ outBindings outBindings′
+    keeps-at : (o : Outcome) → O ≡ o → Numbered o → Answers o number place n m outRows outRows′ outBindings outBindings′
         → KeepsOwners w rows number n m outRows′ outBindings′
     keeps-at (refused k p) q z a = λ e h calm. absurd (z (sym (a .numbered) ∙ h))
     keeps-at (converted ws bs) q z a = λ e h calm.
-        let C : Converted 16384 128 w rows names text (lentRoom outRows outBindings) ws bs = converts 16384 128 w rows names text (lentRoom outRows outBindings) ws bs q in
-        let A : Accepted 16384 128 arrowsOn rows names text = subst (λ (x : Switches). Accepted 16384 128 x rows names text) e (C .accepted) in
+        let C : Converted rowLimit depthLimit w rows names text (lentRoom outRows outBindings) ws bs = converts rowLimit depthLimit w rows names text (lentRoom outRows outBindings) ws bs q in
+        let A : Accepted rowLimit depthLimit arrowsOn rows names text = subst (λ (x : Switches). Accepted rowLimit depthLimit x rows names text) e (C .accepted) in
         let r : resultIn n m outRows′ outBindings′ ≡ steps (namesOf names text) arrowsOn (table rows) = read-result ws bs q a ∙ ap (λ (x : Switches). steps (namesOf names text) x (table rows)) e in
-        subst (λ (x : Result). OwnersKept (table rows) x) (sym r) (owner-rule 16384 128 rows names text A calm)
+        subst (λ (x : Result). OwnersKept (table rows) x) (sym r) (owner-rule rowLimit depthLimit rows names text A calm)
 
     -- demand 3 follows from the answer
-    pub keeps-owners : Answers (outcomeOf w rows names text outRows outBindings) number place n m outRows outRows′ outBindings outBindings′
+    pub keeps-owners : Answers O number place n m outRows outRows′ outBindings outBindings′
         → KeepsOwners w rows number n m outRows′ outBindings′
-    keeps-owners a = keeps-at (outcomeOf w rows names text outRows outBindings) refl outcome-numbered a
+    keeps-owners a = keeps-at O refl outcome-numbered a
 
-    pub promised : Answers (outcomeOf w rows names text outRows outBindings) number place n m outRows outRows′ outBindings outBindings′
-        → Answers (outcomeOf w rows names text outRows outBindings) number place n m outRows outRows′ outBindings outBindings′ × KeepsOwners w rows number n m outRows′ outBindings′
+    pub promised : Answers O number place n m outRows outRows′ outBindings outBindings′
+        → Answers O number place n m outRows outRows′ outBindings outBindings′ × KeepsOwners w rows number n m outRows′ outBindings′
     promised a = (a, keeps-owners a)
 
     -- the same in other numbers that are equal
-    pub renumbered : (number′ place′ n′ m′ : ℕ) → number′ ≡ number → place′ ≡ place → n′ ≡ n → m′ ≡ m → Answers (outcomeOf w rows names text outRows outBindings) number place n m outRows outRows′ outBindings outBindings′
-        → Answers (outcomeOf w rows names text outRows outBindings) number′ place′ n′ m′ outRows outRows′ outBindings outBindings′ × KeepsOwners w rows number′ n′ m′ outRows′ outBindings′
+    pub renumbered : (number′ place′ n′ m′ : ℕ) → number′ ≡ number → place′ ≡ place → n′ ≡ n → m′ ≡ m → Answers O number place n m outRows outRows′ outBindings outBindings′
+        → Answers O number′ place′ n′ m′ outRows outRows′ outBindings outBindings′ × KeepsOwners w rows number′ n′ m′ outRows′ outBindings′
     renumbered number′ place′ n′ m′ a b c d h = rw (a, b, c, d) (promised h)

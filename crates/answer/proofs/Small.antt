@@ -23,7 +23,7 @@ use Rattle.refusals.specs.Refused as turns
 use Rattle.refusals.specs.Refused.{turnedAway}
 use Rattle.refusals.specs.declared.Refused.{Refused}
 use Rattle.refusals.specs.declared.Refused.the-variants.{Not, SuperNotAllowed, FieldHolds, NamedArguments}
-use Rattle.answer.specs.Converting.{lentRoom, outcomeOf, placeIn, Answers}
+use Rattle.answer.specs.Converting.{lentRoom, placeIn, Answers}
 use Rattle.refusals.proofs.Giving.{given}
 use Rattle.refusals.proofs.Turning as turning
 use Rattle.refusals.proofs.Turning.{unlessTurned, turned-outcome}
@@ -47,28 +47,31 @@ checked-place (BadRow class row) o h k = h
 checked-place (TooDeep row) o h k = h
 checked-place (MadeBinding row) o h k = h
 
-module _ (w : Switches) (rows names text outRows outBindings : List ℕ) where
+module _ (rowLimit depthLimit : ℕ) (w : Switches) (rows names text outRows outBindings : List ℕ) where
+  abbrev O : Outcome
+  O = outcome rowLimit depthLimit w rows names text (lentRoom outRows outBindings)
+
   -- the place of an outcome is a name or a row of the table
-  pub outcome-place : placeIn (outcomeOf w rows names text outRows outBindings) ≤ 16384
+  pub outcome-place : placeIn O ≤ 16384
   unfolding outcome within
   outcome-place =
       let R : Result = steps (namesOf names text) w (table rows) in
       let b : Bool = leb (size (R .rows)) (length outRows / 16) && leb (length (R .bindings)) (length outBindings / 12) in
       let last : Outcome = cond b (converted (flat 0 (R .rows)) (records (R .bindings))) (refused 9 0) in
-      checked-place (checked 16384 128 rows names text) _ (answers.place-small 16384 128 rows names text)
+      checked-place (checked rowLimit depthLimit rows names text) _ (answers.place-small rowLimit depthLimit rows names text)
       (λ s. subst (λ (o : Outcome). placeIn o ≤ 16384) (turned-outcome w rows names text last)
-      (turned-place (turnedAway (namesOf names text) w (table rows)) last (turning.place-small w rows names text (given 16384 128 rows names text s .0)) (room-place b _ _)))
+      (turned-place (turnedAway (namesOf names text) w (table rows)) last (turning.place-small w rows names text (given rowLimit depthLimit rows names text s .0)) (room-place b _ _)))
 
   module _ (number place n m : ℕ) (outRows′ outBindings′ : List ℕ) where
     -- so many rows and bindings
-    counts-at : (o : Outcome) → outcomeOf w rows names text outRows outBindings ≡ o → Answers o number place n m outRows outRows′ outBindings outBindings′ → (n < 2 ^ 32) × (m < 2 ^ 32)
+    counts-at : (o : Outcome) → O ≡ o → Answers o number place n m outRows outRows′ outBindings outBindings′ → (n < 2 ^ 32) × (m < 2 ^ 32)
     counts-at (refused k p) q a = (omega (arith, a .counted), omega (arith, a .listed))
     counts-at (converted ws bs) q a =
-        let C : Converted 16384 128 w rows names text (lentRoom outRows outBindings) ws bs = converts 16384 128 w rows names text (lentRoom outRows outBindings) ws bs q in
+        let C : Converted rowLimit depthLimit w rows names text (lentRoom outRows outBindings) ws bs = converts rowLimit depthLimit w rows names text (lentRoom outRows outBindings) ws bs q in
         let R : Result = steps (namesOf names text) w (table rows) in
-        let W = result-within 16384 128 w rows names text (C .accepted) in
-        let g = given 16384 128 rows names text (C .accepted .sound) .0 in (
-          omega (arith, a .counted, ap length (C .rows-are), length-flat 0 (R .rows), result-small 16384 128 w rows names text (C .accepted)),
+        let W = result-within rowLimit depthLimit w rows names text (C .accepted) in
+        let g = given rowLimit depthLimit rows names text (C .accepted .sound) .0 in (
+          omega (arith, a .counted, ap length (C .rows-are), length-flat 0 (R .rows), result-small rowLimit depthLimit w rows names text (C .accepted)),
           omega (arith, a .listed, ap length (C .bindings-are), length-bytes (records (R .bindings)), records-bytes (R .bindings), W .few, g .few),
         )
 
@@ -78,7 +81,7 @@ module _ (w : Switches) (rows names text outRows outBindings : List ℕ) where
       pub rows-counted : n < 2 ^ 32
       pub bindings-counted : m < 2 ^ 32
 
-    pub answer-small : Answers (outcomeOf w rows names text outRows outBindings) number place n m outRows outRows′ outBindings outBindings′ → Small
+    pub answer-small : Answers O number place n m outRows outRows′ outBindings outBindings′ → Small
     answer-small a =
-        let k = counts-at (outcomeOf w rows names text outRows outBindings) refl a in
+        let k = counts-at O refl a in
         record { placed = omega (arith, a .placed, outcome-place); rows-counted = k .0; bindings-counted = k .1 }

@@ -33,7 +33,7 @@ slice-aggregate-print-converted-2 c = search needs
 print-converted-requires : tie.Need-print-converted-requires
 print-converted-requires c κs =
     let a = c .before .before .before .before .before .convert .ensures .0 in
-    let s = answer-small _ _ _ _ _ _ _ _ _ _ _ _ a in
+    let s = answer-small _ _ _ _ _ _ _ _ _ _ _ _ _ _ a in
     (s .placed, rows-fit _ _ _ _ _ _ _ _ _ a, records-fit _ _ _ _ _ _ _ _ _ a, whole-of 32768 (c .before .before .before .before .before .convert .last .1 .1 .1 .1 .0) (slice-aggregate-print-converted (c .before .before)), whole-of 3072 (c .before .before .before .before .before .convert .last .1 .1 .1 .1 .1 .0) (slice-aggregate-print-converted-2 (c .before)))
 
 same-length : tie.Need-same-length

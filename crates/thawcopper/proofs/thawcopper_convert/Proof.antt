@@ -9,7 +9,7 @@ convert-requires : tie.Need-convert-requires
 convert-requires c κs = search needs
 
 answer-of-requires : tie.Need-answer-of-requires
-answer-of-requires c κs = let s = answer-small _ _ _ _ _ _ _ _ _ _ _ _ (c .before .before .before .before .convert .ensures .0) in (s .placed, (s .rows-counted, s .bindings-counted))
+answer-of-requires c κs = let s = answer-small _ _ _ _ _ _ _ _ _ _ _ _ _ _ (c .before .before .before .before .convert .ensures .0) in (s .placed, (s .rows-counted, s .bindings-counted))
 
 same-length : tie.Need-same-length
 same-length c = search needs
@@ -18,7 +18,7 @@ same-length-2 : tie.Need-same-length-2
 same-length-2 c = search needs
 
 returns : tie.Need-returns
-returns c = let s = c .answer-of .ensures in renumbered _ _ _ _ _ _ _ _ _ _ _ _ _ _ _ _ (s .0) (s .1) (s .2) (s .3) (c .before .before .before .before .before .convert .ensures .0)
+returns c = let s = c .answer-of .ensures in renumbered _ _ _ _ _ _ _ _ _ _ _ _ _ _ _ _ _ _ (s .0) (s .1) (s .2) (s .3) (c .before .before .before .before .before .convert .ensures .0)
 
 pub thawcopper-convert-spec : {M : Type 1} → statement M
 thawcopper-convert-spec =
