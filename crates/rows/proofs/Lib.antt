@@ -1,3 +1,4 @@
 pub mod Ordering
 pub mod Soundness
 pub mod Answers
+pub mod Larger

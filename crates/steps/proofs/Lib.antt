@@ -24,3 +24,4 @@ pub mod Fusing
 pub mod Seeks
 pub mod Told
 pub mod Fields
+pub mod Larger
