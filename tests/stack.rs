@@ -1,18 +1,35 @@
-//! How much stack a conversion takes, through the C entry as a host links it: the deepest tables that are accepted, with 64,
-//! 1,024 and 16,384 rows, the most for which the local arrays have the same size.
+//! How much stack a conversion takes, through the C entries as a host links them: the deepest tables that are accepted,
+//! with 64, 1,024 and 16,384 rows, the most for which the local arrays have the same size; and as a tablet, with the
+//! 512 rows and the depth that it takes at most.
 //!
 //! `.ci/run` says how it is built, with the package of host/.
 //!
-//! Each table is converted in a thread whose stack is that of its size below; one that needs more ends the test by a signal.
-//! The word `measure` as an argument prints the least stack that each of them needs, in steps of 4 KiB.
+//! Each table is converted in a thread whose stack is that of its size below, what the thread itself needs included;
+//! one that needs more ends the test by a signal. The word `measure` as an argument prints the least stack that each of
+//! them needs, in steps of 4 KiB.
 
 use std::process::{Command, ExitCode};
 
-use thawcopper::{raw, Kind, Node, Switches, Table};
+use thawcopper::{raw, Kind, Node, Options, Switches, Table};
 
-/// Rows, and the stack in which every table of so many is converted, in KiB.
-const SIZES: [(usize, usize); 3] = [(64, 128), (1_024, 256), (16_384, 1_024)];
-const DEEPEST: usize = 128;
+/// A caller's tables of a size: their rows, the depth down to which they are nested, and the stack in which every one
+/// of them is converted, in KiB.
+struct Size {
+    tablet: bool,
+    rows: usize,
+    deepest: usize,
+    stack: usize,
+}
+
+/// The print room's, and a tablet's, whose stack the header tells.
+const SIZES: [Size; 4] = [
+    Size { tablet: false, rows: 64, deepest: 128, stack: 128 },
+    Size { tablet: false, rows: 1_024, deepest: 128, stack: 256 },
+    Size { tablet: false, rows: 16_384, deepest: 128, stack: 1_024 },
+    Size { tablet: true, rows: 512, deepest: 32, stack: 192 },
+];
+
+const HEADER: &str = include_str!("../host/include/thawcopper.h");
 
 /// A statement that reads `this` in an arrow.
 fn reads_this() -> Node {
@@ -34,14 +51,15 @@ fn nest(shape: &str, depth: usize) -> Node {
     }
 }
 
-/// A Program that nests `shape` as deep as so many rows allow, and has just so many.
-fn table(shape: &str, rows: usize) -> Table {
+/// A Program that nests `shape` as deep as the size allows, and has just its rows.
+fn table(shape: &str, size: &Size) -> Table {
+    let rows = size.rows;
     let with = |depth: usize, more: usize| {
         let statements = (0..more / 2).map(|_| Node::statement(Node::this()));
         let last = (0..more % 2).map(|_| Node::new(Kind::Return));
         Table::from_tree(&Node::program(std::iter::once(nest(shape, depth)).chain(statements).chain(last)))
     };
-    let depth = (3..=DEEPEST).rev().find(|depth| with(*depth, 0).rows().len() <= rows).unwrap();
+    let depth = (3..=size.deepest).rev().find(|depth| with(*depth, 0).rows().len() <= rows).unwrap();
     with(depth, rows - with(depth, 0).rows().len())
 }
 
@@ -52,12 +70,24 @@ fn modes() -> [(&'static str, Switches); 3] {
     [("Disabled", switches(false, false)), ("AsyncOnly", switches(false, true)), ("Enabled", switches(true, true))]
 }
 
-/// Converts in a thread of that stack.
-fn run(shape: &str, rows: usize, switches: Switches, stack: usize) -> raw::Answer {
-    let table = table(shape, rows);
+/// Converts in a thread of that stack: with much room and with just enough, for which the library counts first; and as
+/// the print room by each of its two entries.
+fn run(shape: &str, size: &Size, switches: Switches, stack: usize) -> raw::Answer {
+    let (table, count, tablet) = (table(shape, size), size.rows, size.tablet);
     let thread = std::thread::Builder::new().stack_size(stack).spawn(move || {
-        let (mut out_rows, mut bindings) = (vec![0u8; 16 * 20 * rows], vec![0u8; 12 * rows]);
-        raw::convert(&switches, table.row_bytes(), table.name_bytes(), table.text_bytes(), &mut out_rows, &mut bindings)
+        let (rows, names, text) = (table.row_bytes(), table.name_bytes(), table.text_bytes());
+        let options = Options::new(switches).tablet(tablet).bits();
+        let call = |rows_lent: usize, bindings_lent: usize| {
+            let (mut out_rows, mut bindings) = (vec![0u8; 16 * rows_lent], vec![0u8; 12 * bindings_lent]);
+            let answer = raw::convert_with(options, rows, names, text, &mut out_rows, &mut bindings);
+            if !tablet {
+                assert_eq!(raw::convert(&switches, rows, names, text, &mut out_rows, &mut bindings), answer);
+            }
+            answer
+        };
+        let answer = call(20 * count, count);
+        assert_eq!(call(answer.rows as usize, answer.bindings as usize), answer);
+        answer
     });
     thread.unwrap().join().unwrap()
 }
@@ -87,18 +117,22 @@ fn main() -> ExitCode {
     let words: Vec<String> = std::env::args().skip(1).collect();
     if words.len() == 4 {
         let n: Vec<usize> = words.iter().map(|w| w.parse().unwrap()).collect();
-        return ExitCode::from((run(SHAPES[n[0]], SIZES[n[1]].0, modes()[n[2]].1, n[3]).refusal != 0) as u8);
+        return ExitCode::from((run(SHAPES[n[0]], &SIZES[n[1]], modes()[n[2]].1, n[3]).refusal != 0) as u8);
     }
     let measure = words.iter().any(|w| w == "measure");
     let mut tables = 0;
     for (s, shape) in SHAPES.iter().enumerate() {
-        for (z, (rows, stack)) in SIZES.into_iter().enumerate() {
+        for (z, size) in SIZES.iter().enumerate() {
+            let rows = size.rows;
+            let told = format!("a stack of {} KiB is enough", size.stack);
+            assert!(!size.tablet || HEADER.contains(&told), "the header does not tell of {told}");
             for (m, (mode, switches)) in modes().into_iter().enumerate() {
                 if measure {
-                    println!("{shape:14} {rows:6} rows {mode:10} {:5} KiB", least(s, z, m));
+                    let caller = if size.tablet { "tablet" } else { "print room" };
+                    println!("{shape:14} {rows:6} rows {caller:10} {mode:10} {:5} KiB", least(s, z, m));
                     continue;
                 }
-                let answer = run(shape, rows, switches, stack * 1_024);
+                let answer = run(shape, size, switches, size.stack * 1_024);
                 assert_eq!((answer.refusal, answer.place), (0, 0), "{shape} {rows} {mode}");
                 assert!(answer.rows as usize >= rows, "{shape} {rows} {mode}");
                 tables += 1;

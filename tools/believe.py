@@ -19,6 +19,7 @@ import sys
 # The first is printed with all that it cites, each later one with what those before it do not cite.
 ENTRIES = [
     ("crates/thawcopper/src/lib.rt", "thawcopper_convert"),
+    ("crates/thawcopper/src/lib.rt", "thawcopper_convert_with"),
     ("crates/converter/src/lib.rt", "convert"),
     ("crates/thawcopper/src/lib.rt", "thawcopper_base_text"),
     ("crates/base_text/src/lib.rt", "base_text"),

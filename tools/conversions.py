@@ -3,7 +3,7 @@
 
   conversions.py FILE            write the conversions to FILE (crates/replay_convert/stdin)
   conversions.py --check FILE    exit status 1 if FILE is not what would be written
-  conversions.py --count         how many there are, by mode, refusal and part
+  conversions.py --count         how many there are, by mode, caller, options, refusal and part
 
 The tables are written by hand, or made by the generator below from fixed seeds. The answers are those of the model,
 convert_model.py; where a refusal is meant, its number and place stand by hand beside the table and must be the model's.
@@ -12,14 +12,14 @@ import sys
 from collections import Counter
 
 import convert_model
-from tables import KINDS, Row, lay, on_one_line, runs_of, write_or_check
+from tables import KINDS, Row, lay, nested, on_one_line, runs_of, set_row, siblings, write_or_check
 
 HEAD = """\
 # Conversions, with the answers that the request gives. Made by conversions.py.
 #
 # Numbers are decimal, apart by blanks and line ends; '#' starts a comment that ends with its line.
 # A conversion is, in this order:
-#   its own number, from 1; the switches arrow, async, asyncgen
+#   its own number, from 1; the options: 1 arrow, 2 async, 4 asyncgen, 8 tablet
 #   how many bytes are lent for rows, at most 270336, and for bindings, at most 65536
 #   the number of runs of rows; for each run: kind attr name end, times, step
 #   how many zero bytes stand behind the rows
@@ -31,6 +31,7 @@ HEAD = """\
 #   the bindings: the number of runs; for each run: use property frame, times, step
 # A run has `times` items. The row's end, the record's frame, the pair's start or the byte grows by `step` from each item
 # to the next. All bytes lent hold 165 before the call; those behind the counted rows and bindings must hold it afterwards.
+# A bit of the options that has no name is not looked at.
 """
 
 ASYNC, GENERATOR, CONSTRUCTOR, DECLARATION = 1, 2, 4, 8
@@ -42,6 +43,9 @@ ALL = (1, 1, 1)
 EIGHT = [(a, b, c) for a in (0, 1) for b in (0, 1) for c in (0, 1)]
 
 BIG = 4294967295
+
+# What the program that reads the file has room for.
+MOST_BYTES, MOST_NUMBERS = 1048575, 327680
 
 
 # Trees. A name is a word; `foo'` is another name with the same bytes as `foo`. A number stands as it is.
@@ -271,10 +275,15 @@ def run_lines(rows, comments):
     return lines
 
 
+def options_of(arrow, asyn, asyncgen, tablet):
+    return 1 * arrow + 2 * asyn + 4 * asyncgen + 8 * tablet
+
+
 def convert(what, switches, table, want=None, names=None, text=None, room=None, spare=(37, 19), after_rows=0, after_names=0,
-            comments=True):
-    """One conversion. `want` is (number, place) where it is given. Room is in bytes; without it, what the result needs and
-    the spare bytes, which hold two whole rows and a whole record more."""
+            comments=True, tablet=False, unnamed=0):
+    """One conversion. `want` is (number, place) where it is given. Room is in bytes; without it, what the print room's result
+    needs and the spare bytes, which hold two whole rows and a whole record more. `unnamed` are bits of the options that have
+    no name."""
     global COUNT
     COUNT += 1
     rows = lay(table) if isinstance(table, Row) else table
@@ -287,9 +296,13 @@ def convert(what, switches, table, want=None, names=None, text=None, room=None, 
         free = convert_model.convert_bytes(*switches, lent, lent_names, spelled, 1 << 30, 1 << 30)
         room = (16 * free[2] + spare[0], 12 * free[3] + spare[1])
     assert room[0] <= 270336 and room[1] <= 65536, what
-    number, place, count, bound, made, records = convert_model.convert_bytes(*switches, lent, lent_names, spelled, *room)
+    options = options_of(*switches, tablet) | unnamed
+    answer = convert_model.convert_with(options, lent, lent_names, spelled, *room)
+    number, place, count, bound, made, records = answer
     assert want is None or want == (number, place), (what, want, (number, place))
-    LINES.extend(["", "# " + what, "%d %d %d %d" % (COUNT, *switches), "%d %d" % room])
+    if tablet and number not in (1, 3):     # what these let through has the print room's answer, whatever it is
+        assert answer == convert_model.convert_bytes(*switches, lent, lent_names, spelled, *room), what
+    LINES.extend(["", "# " + what, "%d %d" % (COUNT, options), "%d %d" % room])
     LINES.extend(run_lines(rows, comments))
     LINES.append(str(after_rows))
     LINES.append(on_one_line(runs_of(pairs, 0)))
@@ -299,7 +312,8 @@ def convert(what, switches, table, want=None, names=None, text=None, room=None, 
     LINES.extend(run_lines(made, comments))
     LINES.append(on_one_line(runs_of([tuple(r) for r in records], 2)))
     TALLY["mode " + convert_model.mode_of(*switches)] += 1
-    TALLY["switches %d %d %d" % switches] += 1
+    TALLY["caller " + ("tablet" if tablet else "print room")] += 1
+    TALLY["options %d" % options] += 1
     TALLY["number %d" % number] += 1
     TALLY["part " + PART] += 1
     for use, _, _ in records:
@@ -313,30 +327,39 @@ def good(what, switches, table, **more):
         convert(what, one_of, table, want=(0, 0), **more)
 
 
+def plots(**more):
+    table = one(reads_this())
+    good("1 the sheet: () => this", ARROWS, table, room=(2048 * 16, 256 * 12), **more)
+    good("2 with 10 rows lent", ARROWS, table, room=(160, 12), **more)
+    convert("2 with 9 rows lent", ARROWS, table, want=(9, 0), room=(144, 12), **more)
+    good("3 all off", OFF, table, **more)
+    good("4 async on only", ONLY_ASYNC, table, **more)
+    moved = one(lam(this(), attr=ASYNC))
+    good("5 async () => this, async on only", ONLY_ASYNC, moved, **more)
+    good("6 async generators on only", ONLY_GENERATORS, moved, **more)
+    good("7 super.foo twice in a moved method", ONLY_ASYNC, in_method(expr(dot("foo")), expr(dot("foo")), attr=ASYNC), **more)
+    good("8 super.f(1) in a moved method", ONLY_ASYNC, in_method(expr(call(dot("f"), opaque())), attr=ASYNC), **more)
+    good("9 super(); () => this in a constructor", ARROWS, in_class(constructor(expr(super_call()), expr(reads_this()))),
+         **more)
+    good("10 async () => arguments", ONLY_ASYNC, one(lam(arguments(), attr=ASYNC)), **more)
+
+
 def sheet():
     part("The sheet and the plots")
-    table = one(reads_this())
-    good("1 the sheet: () => this", ARROWS, table, room=(2048 * 16, 256 * 12))
-    good("2 with 10 rows lent", ARROWS, table, room=(160, 12))
-    convert("2 with 9 rows lent", ARROWS, table, want=(9, 0), room=(144, 12))
-    good("3 all off", OFF, table)
-    good("4 async on only", ONLY_ASYNC, table)
-    moved = one(lam(this(), attr=ASYNC))
-    good("5 async () => this, async on only", ONLY_ASYNC, moved)
-    good("6 async generators on only", ONLY_GENERATORS, moved)
-    good("7 super.foo twice in a moved method", ONLY_ASYNC, in_method(expr(dot("foo")), expr(dot("foo")), attr=ASYNC))
-    good("8 super.f(1) in a moved method", ONLY_ASYNC, in_method(expr(call(dot("f"), opaque())), attr=ASYNC))
-    good("9 super(); () => this in a constructor", ARROWS, in_class(constructor(expr(super_call()), expr(reads_this()))))
-    good("10 async () => arguments", ONLY_ASYNC, one(lam(arguments(), attr=ASYNC)))
+    plots()
 
 
-def modes():
-    part("Module 1: the eight settings")
+def four_sorts(**more):
     table = program(
         expr(reads_this()), expr(lam(this(), attr=ASYNC)),
         expr(klass(method(expr(this()), expr(dot("p")), attr=ASYNC),
                    method(expr(this()), expr(dot("p")), attr=ASYNC | GENERATOR))))
-    good("a plain arrow, an async arrow, an async method and an async generator method", EIGHT, table)
+    good("a plain arrow, an async arrow, an async method and an async generator method", EIGHT, table, **more)
+
+
+def modes():
+    part("Module 1: the eight settings")
+    four_sorts()
     good("an empty Program", EIGHT, program())
     table = program(expr(call(ident("a"), arguments(), opaque(attr=7, name=9))), other(this(), attr=BIG, name=BIG),
                     var(decl("b", this()), attr=2), block(ret(), attr=1))
@@ -713,18 +736,27 @@ def room():
     convert("1 before 9", OFF, [], want=(1, 0), room=(0, 0))
 
 
+def captures(n, attr=0):
+    """() => (this, this, ..) in n rows. Its result has 5 rows more; that of an async arrow, which stays one, has 3 more."""
+    rows = [[0, 0, 0, n], [1, 0, 0, n], [16, attr | 2, 0, n], [18, 0, 0, 4], [26, 0, 0, n]]
+    return rows + [[9, 0, 0, i + 1] for i in range(5, n)]
+
+
+def arrows_in_arrows(depth):
+    """The k-th arrow is row 2 k, at depth k + 1. Its Params and what it returns have the next depth."""
+    deep = this()
+    for _ in range(depth - 2):
+        deep = lam(deep)
+    return one(deep)
+
+
 def large():
     part("Large tables")
-    good("16,384 rows, nothing to do", [OFF, ALL], [[0, 0, 0, 16384]] + [[4, 0, 0, i + 1] for i in range(1, 16384)])
-    captures = [[0, 0, 0, 16384], [1, 0, 0, 16384], [16, 2, 0, 16384], [18, 0, 0, 4], [26, 0, 0, 16384]]
-    captures += [[9, 0, 0, i + 1] for i in range(5, 16384)]
-    good("16,384 rows, each this captured", ARROWS, captures)
-    made = convert_model.convert(*ARROWS, [w for r in captures for w in r], [], b"", 1 << 20, 1)
-    convert("the same with one row too little", ARROWS, captures, want=(9, 0), room=(16 * made[2] - 16, 12))
-    deep = this()
-    for _ in range(126):
-        deep = lam(deep)
-    good("arrows in arrows, depth 128", [ARROWS], one(deep), comments=False)
+    good("16,384 rows, nothing to do", [OFF, ALL], siblings(16384))
+    good("16,384 rows, each this captured", ARROWS, captures(16384))
+    made = convert_model.convert(*ARROWS, [w for r in captures(16384) for w in r], [], b"", 1 << 20, 1)
+    convert("the same with one row too little", ARROWS, captures(16384), want=(9, 0), room=(16 * made[2] - 16, 12))
+    good("arrows in arrows, depth 128", [ARROWS], arrows_in_arrows(128), comments=False)
     deep = expr(reads_this())
     for _ in range(41):
         deep = expr(func(deep, expr(reads_this())))
@@ -951,28 +983,203 @@ def deepest(table):
     return 1 + max((deepest(kid) for kid in table.kids), default=-1)
 
 
-def by_chance(seed, switches, low, high, wild=0.0, maker=Chance.table):
-    """A table of `low` to `high` rows."""
+def by_chance(seed, switches, low, high, wild=0.0, maker=Chance.table, depth=128):
+    """A table of `low` to `high` rows and no deeper than `depth`."""
     chance = Chance(seed)
     while True:
         table = maker(chance, chance.randint(low, high), convert_model.mode_of(*switches), wild)
-        if low <= len(lay(table)) <= high and deepest(table) <= 128:
+        if low <= len(lay(table)) <= high and deepest(table) <= depth:
             return table
+
+
+SETTINGS = [ARROWS, ONLY_ASYNC, ALL, BOTH, ONLY_ASYNC, (1, 1, 0), ONLY_GENERATORS, (1, 0, 1), ONLY_ASYNC, OFF]
+
+
+def small_chance(seed, **more):
+    switches = SETTINGS[seed % len(SETTINGS)]
+    wild = 0.02 if seed % 5 == 4 else 0.0
+    convert("seed %d" % seed, switches, by_chance(seed, switches, 5 + seed % 40, 60, wild), comments=False, **more)
+
+
+def constructor_chance(seed, **more):
+    switches = SETTINGS[seed % 7]
+    table = by_chance(seed, switches, 24, 64, maker=Chance.constructed)
+    convert("seed %d: a constructor" % seed, switches, table, comments=False, **more)
 
 
 def chances():
     part("Tables by chance")
-    settings = [ARROWS, ONLY_ASYNC, ALL, BOTH, ONLY_ASYNC, (1, 1, 0), ONLY_GENERATORS, (1, 0, 1), ONLY_ASYNC, OFF]
     for seed in range(100):
-        switches = settings[seed % len(settings)]
-        wild = 0.02 if seed % 5 == 4 else 0.0
-        convert("seed %d" % seed, switches, by_chance(seed, switches, 5 + seed % 40, 60, wild), comments=False)
+        small_chance(seed)
     for seed in range(200, 240):
-        switches = settings[seed % 7]
-        table = by_chance(seed, switches, 24, 64, maker=Chance.constructed)
-        convert("seed %d: a constructor" % seed, switches, table, comments=False)
+        constructor_chance(seed)
     for seed, switches in ((1001, ARROWS), (1002, ONLY_ASYNC), (1003, ALL), (1004, BOTH)):
         convert("seed %d" % seed, switches, by_chance(seed, switches, 1000, 1100), comments=False)
+
+
+# Request No. 1: the two callers.
+
+THREE = [OFF, ONLY_ASYNC, ARROWS]       # one setting of each mode
+SAME = None                             # the print room's answer is the tablet's
+
+
+def both_callers(what, switches, table, tablet, print_room=(0, 0), **more):
+    """One table through both callers with the same room, and by hand the answers of the tablet and of the print room."""
+    for one_of in switches if isinstance(switches, list) else [switches]:
+        convert(what + ": tablet", one_of, table, want=tablet, tablet=True, **more)
+        convert(what + ": print room", one_of, table, want=tablet if print_room is SAME else print_room, **more)
+
+
+def blocks(depth, *inner):
+    """A statement of the Program: a Block in a Block .. down to `depth`, each one row. The last holds `inner`."""
+    deep = block(*inner)
+    for _ in range(depth - 1):
+        deep = block(deep)
+    return deep
+
+
+def wide_and_deep(n, depth):
+    """Returns, then a Block in a Block ..: n rows, of which the last one alone has this depth."""
+    first = n - depth
+    return [[0, 0, 0, n]] + [[4, 0, 0, i + 1] for i in range(1, first)] + [[5, 0, 0, n] for _ in range(depth)]
+
+
+def methods_in_methods(inner):
+    """Six moved methods in one another, the outer five with an accessor. A method has six rows and five depths, so that
+    `inner` in its ExprStmt is row 38 at depth 32."""
+    deep = expr(klass(method(expr(inner), attr=ASYNC)))
+    for _ in range(5):
+        deep = expr(klass(method(deep, expr(dot("p")), attr=ASYNC)))
+    return program(deep)
+
+
+def ending(n, *rows):
+    """A Program of n rows that ends with these; before them stand Returns."""
+    return siblings(n)[:n - len(rows)] + [list(r) for r in rows]
+
+
+def callers_limits():
+    part("Tablet and print room: the limits")
+    for n in (511, 512, 513):
+        answer = (1, 0) if n == 513 else (0, 0)
+        both_callers("%d rows, nothing to do" % n, THREE, siblings(n), answer)
+        both_callers("%d rows, each this captured" % n, ARROWS, captures(n), answer)
+        both_callers("%d rows, each this captured in an async arrow" % n, ONLY_ASYNC, captures(n, ASYNC), answer)
+    both_callers("depth 31", THREE, nested(32), (0, 0))
+    both_callers("depth 32", THREE, nested(33), (0, 0))
+    both_callers("depth 33", THREE, nested(34), (3, 33))
+    both_callers("depth 32, arrows in arrows", ARROWS, arrows_in_arrows(32), (0, 0), comments=False)
+    both_callers("depth 33, arrows in arrows", ARROWS, arrows_in_arrows(33), (3, 63), comments=False)
+    both_callers("depth 32, moved methods in one another", ONLY_ASYNC, methods_in_methods(this()), (0, 0), comments=False)
+    both_callers("depth 33, moved methods in one another", ONLY_ASYNC, methods_in_methods(opaque(this())), (3, 39),
+                 comments=False)
+    both_callers("512 rows and depth 32", THREE, wide_and_deep(512, 32), (0, 0))
+    both_callers("512 rows, the last at depth 33", THREE, wide_and_deep(512, 33), (3, 511))
+    both_callers("513 rows, the last at depth 32", ARROWS, wide_and_deep(513, 32), (1, 0))
+    both_callers("depth 34: the first row past the limit, not the deepest", ARROWS, nested(35), (3, 33))
+    both_callers("depth 33 twice: the first", THREE, program(blocks(33), blocks(33)), (3, 33))
+    both_callers("depth 33 twice, after depth 32: the first", ARROWS, program(blocks(32), blocks(33), blocks(33)), (3, 65))
+    both_callers("depth 33 side by side: the first", ARROWS, program(blocks(32, ret(), ret())), (3, 33))
+    both_callers("depth 32, then rows that are not deep", ARROWS, program(blocks(32), ret(), block(ret())), (0, 0))
+    both_callers("depth 128", [OFF, ARROWS], nested(129), (3, 33))
+    both_callers("depth 129: each caller's own first row", [OFF, ARROWS], nested(130), (3, 33), (3, 129))
+    both_callers("16,384 rows", ARROWS, captures(16384), (1, 0))
+    both_callers("16,385 rows", [OFF, ARROWS], siblings(16385), (1, 0), SAME)
+    both_callers("no rows", ARROWS, [], (1, 0), SAME)
+    both_callers("512 rows and a word", ARROWS, siblings(512), (1, 0), SAME, after_rows=4)
+    both_callers("512 rows and a byte", ARROWS, siblings(512), (1, 0), SAME, after_rows=1)
+    both_callers("sixteen zero bytes are row 513, and row 0 ends before it", ARROWS, siblings(512), (1, 0), (2, 0),
+                 after_rows=16)
+    most = {"names": [(0, 1)] * 4096, "text": b"a" * 65535}
+    both_callers("4,096 names and 65,535 bytes of text", THREE, one(reads_this()), (0, 0), **most)
+    both_callers("4,096 names, 65,535 bytes of text, 512 rows and depth 32", ARROWS, wide_and_deep(512, 32), (0, 0), **most)
+    both_callers("4,097 names", ARROWS, one(reads_this()), (1, 0), SAME, names=[(0, 1)] * 4097, text=b"a")
+    both_callers("65,536 bytes of text", ARROWS, one(reads_this()), (1, 0), SAME, text=b"a" * 65536)
+    both_callers("half a name", ARROWS, one(reads_this()), (1, 0), SAME, after_names=4)
+
+
+def callers_order():
+    part("Tablet and print room: the order")
+    bad_name = {"names": [(0, 1), (0, 0)], "text": b"a"}
+    both_callers("1 before 3: 513 rows, the last at depth 33", THREE, wide_and_deep(513, 33), (1, 0))
+    both_callers("1 before 3: 600 rows in one another", ARROWS, nested(600), (1, 0), (3, 129))
+    both_callers("1 before 4: 513 rows and a bad name", THREE, siblings(513), (1, 0), (4, 2), **bad_name)
+    both_callers("4: 512 rows and a bad name", ARROWS, siblings(512), (4, 2), SAME, **bad_name)
+    both_callers("4 before 3: depth 33 and a bad name", ARROWS, nested(34), (4, 2), SAME, **bad_name)
+    both_callers("1 before 2: 513 rows, and row 0 has no kind", ARROWS, set_row(siblings(513), 0, [7, 0, 0, 513]),
+                 (1, 0), (2, 0))
+    both_callers("2: the last of 512 rows is bad", ARROWS, set_row(siblings(512), 511, [4, 5, 0, 512]), (2, 511), SAME)
+    both_callers("2 before 3: a bad row before depth 33", ARROWS, set_row(nested(40), 5, [5, 0, 1, 40]), (2, 5), SAME)
+    both_callers("2 before 3: a bad row after depth 33", THREE, set_row(nested(40), 39, [5, 2, 0, 40]), (2, 39), SAME)
+    both_callers("2 before 3: the bad row has depth 33", ARROWS, set_row(nested(40), 33, [5, 0, 1, 40]), (2, 33), SAME)
+    both_callers("1 before 5: 513 rows, the last a made one", ARROWS, ending(513, (1, 0, 0, 513), (27, 0, 0, 513)),
+                 (1, 0), (5, 512))
+    made = expr(ident(7, attr=1))
+    both_callers("3 before 5: a made row before depth 33", THREE, program(made, blocks(33)), (3, 35), (5, 2))
+    both_callers("3 before 5: the made row has depth 33", ARROWS, program(blocks(31, made)), (3, 33), (5, 33))
+    both_callers("5: the made row has depth 32", ARROWS, program(blocks(30, made)), (5, 32), SAME)
+    on = [ARROWS, ONLY_ASYNC]
+    x = {"names": [(0, 1)], "text": b"x"}
+    last = ending(513, (1, 0, 0, 513), (12, 0, 1, 513), (10, 0, 0, 513))
+    both_callers("1 before 6: 513 rows, the last a super out of place", on, last, (1, 0), (6, 512), **x)
+    both_callers("3 before 6: super.x at Program and depth 33", on, program(expr(dot("x")), blocks(33)), (3, 36), (6, 3))
+    both_callers("3, and no 6 with all off", OFF, program(expr(dot("x")), blocks(33)), (3, 36))
+    both_callers("6: super.x at Program and depth 32", on, program(expr(dot("x")), blocks(32)), (6, 3), SAME)
+    in_field = expr(klass(field(dot("x"))))
+    both_callers("3 before 7: super.x in a Field's value and depth 33", on, program(in_field, blocks(33)), (3, 38), (7, 3))
+    both_callers("7: super.x in a Field's value and depth 32", on, program(in_field, blocks(32)), (7, 3), SAME)
+    called_so = var(decl("arguments"))
+    both_callers("3 before 8: var arguments and depth 33", ONLY_ASYNC, program(called_so, blocks(33)), (3, 35), (8, 2))
+    both_callers("8: var arguments and depth 32", ONLY_ASYNC, program(called_so, blocks(32)), (8, 2), SAME)
+
+
+def callers_room():
+    part("Tablet and print room: room")
+    for what, switches, table, rows in [
+            ("512 rows, a result of 517", ARROWS, captures(512), 517),
+            ("512 rows, a result of 515", ONLY_ASYNC, captures(512, ASYNC), 515)]:
+        exact = 16 * rows
+        both_callers(what + ": exact", switches, table, (0, 0), room=(exact, 12))
+        both_callers(what + ": one row short", switches, table, (9, 0), SAME, room=(exact - 16, 12))
+        both_callers(what + ": one byte short", switches, table, (9, 0), SAME, room=(exact - 1, 12))
+        both_callers(what + ": room for 512", switches, table, (9, 0), SAME, room=(16 * 512, 12))
+        both_callers(what + ": no whole record lent", switches, table, (9, 0), SAME, room=(exact, 11))
+        both_callers(what + ": nothing lent", switches, table, (9, 0), SAME, room=(0, 0))
+    both_callers("512 rows copied: exact", OFF, siblings(512), (0, 0), room=(16 * 512, 0))
+    both_callers("512 rows copied: one row short", OFF, siblings(512), (9, 0), SAME, room=(16 * 511, 0))
+    both_callers("1 before 9: 513 rows, nothing lent", THREE, siblings(513), (1, 0), (9, 0), room=(0, 0))
+    both_callers("3 before 9: depth 33, nothing lent", THREE, nested(34), (3, 33), (9, 0), room=(0, 0))
+
+
+def callers_options():
+    part("Tablet: the eight settings")
+    four_sorts(tablet=True)
+    part("Options: bits without a name")
+    # A request that gives one of these bits a name has to look at these two.
+    good("bits without a name, all from 64 up: as without them, 513 rows in the print room", ARROWS, captures(513),
+         unnamed=(1 << 32) - 64)
+    convert("a bit without a name, 2 to the 31st: as without it, 513 rows on a tablet", ARROWS, captures(513), want=(1, 0),
+            tablet=True, unnamed=1 << 31)
+
+
+def callers_same():
+    part("Tablet: the sheet and the plots")
+    plots(tablet=True)
+    part("Tablet: tables by chance, those of the print room")
+    for seed in range(10):
+        small_chance(seed, tablet=True)
+    for seed in range(200, 203):
+        constructor_chance(seed, tablet=True)
+    part("Tablet: a table by chance near the limits")
+    convert("seed 1005", ALL, by_chance(1005, ALL, 500, 512, depth=32), want=(0, 0), comments=False, tablet=True)
+
+
+def callers():
+    callers_limits()
+    callers_order()
+    callers_room()
+    callers_options()
+    callers_same()
 
 
 def whole():
@@ -988,15 +1195,25 @@ def whole():
     room()
     large()
     chances()
+    callers()
     return HEAD + "\n".join(LINES) + "\n"
+
+
+def sizes(stored):
+    """The bytes and the numbers of the file; it must not have more than its reader has room for."""
+    numbers = sum(len(line.split("#")[0].split()) for line in stored.splitlines())
+    size = len(stored.encode())
+    if size > MOST_BYTES or numbers > MOST_NUMBERS:
+        sys.exit("conversions.py: %d bytes of %d, %d numbers of %d" % (size, MOST_BYTES, numbers, MOST_NUMBERS))
+    return size, numbers
 
 
 if __name__ == "__main__":
     stored = whole()
+    sizes_of_stored = sizes(stored)
     if sys.argv[1:] == ["--count"]:
         for what, count in sorted(TALLY.items()):
             print(what, count)
-        words = [w for line in stored.splitlines() for w in line.split("#")[0].split()]
-        print("%d bytes, %d numbers" % (len(stored.encode()), len(words)))
+        print("%d bytes, %d numbers" % sizes_of_stored)
     else:
         write_or_check(__doc__, "conversions.py", stored, "%d conversions" % COUNT)

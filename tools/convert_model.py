@@ -1,7 +1,8 @@
 #!/usr/bin/env python3
 """A model of the whole conversion of the request, on trees: the refusals 1 to 9 and the modules 1 and 3 to 9.
 
-  convert_model.py --self-test    the request's sheet and its ten plots, and the answers of the stored tables of tables.py
+  convert_model.py --self-test    the request's sheet and its ten plots, the callers and the options, and the answers of
+                                  the stored tables of tables.py
 
 It is written from the request's words and from the Rust, and shares nothing with the crates. Rows become nodes that know
 their parent, and a rule that says "outward" walks up the parents. One walk makes the bindings in their order and a new tree;
@@ -28,6 +29,13 @@ class Refused(Exception):
         self.number, self.place = number, place
 
 
+# The callers.
+
+def limits_of(tablet):
+    """The most rows and the depth of a caller: "at most 512 rows and depth 32; the print room keeps 16,384 and 128"."""
+    return (512, 32) if tablet else (16384, 128)
+
+
 # The table as it is lent: sizes and names.
 
 def words_of(data):
@@ -38,9 +46,10 @@ def bytes_of(words):
     return b"".join(w.to_bytes(4, "little") for w in words)
 
 
-def sizes(rows, names, text):
-    """1: "row words not a multiple of 4; rows 0 or over 16,384; name words odd; names over 4,096; text over 65,535 bytes"."""
-    if len(rows) % 16 or not 1 <= len(rows) // 16 <= 16384:
+def sizes(rows, names, text, most):
+    """1: "row words not a multiple of 4; rows 0 or over" the caller's number; "name words odd; names over 4,096; text over
+    65,535 bytes"."""
+    if len(rows) % 16 or not 1 <= len(rows) // 16 <= most:
         raise Refused(1, 0)
     if len(names) % 8 or len(names) // 8 > 4096 or len(text) > 65535:
         raise Refused(1, 0)
@@ -275,11 +284,11 @@ def of_super(node):
 
 # The refusals 3, 5, 6, 7, 8.
 
-def depth(nodes):
+def depth(nodes, most):
     deep = [0] * len(nodes)
     for node in nodes[1:]:
         deep[node.row] = deep[node.parent.row] + 1
-        if deep[node.row] > 128:
+        if deep[node.row] > most:
             raise Refused(3, node.row)
 
 
@@ -579,22 +588,23 @@ def mode_of(arrow, asyn, asyncgen):
     return ASYNC_ONLY if asyn or asyncgen else DISABLED
 
 
-def checked(rows, names, text):
-    """1, 4, 2, 3, 5: the nodes and the names' bytes of a sound table."""
-    sizes(rows, names, text)
+def checked(rows, names, text, tablet=False):
+    """1, 4, 2, 3, 5: the nodes and the names' bytes of a table that is sound for its caller."""
+    most_rows, most_depth = limits_of(tablet)
+    sizes(rows, names, text, most_rows)
     words, pairs = words_of(rows), words_of(names)
     spelled = spellings(list(zip(pairs[::2], pairs[1::2])), text)
     table = [words[i:i + 4] for i in range(0, len(words), 4)]
     grammar(table, len(spelled))
     nodes = tree(table)
-    depth(nodes)
+    depth(nodes, most_depth)
     made_rows(nodes)
     return nodes, spelled
 
 
-def converted(arrow, asyn, asyncgen, rows, names, text):
-    """The rows and the records of the result, whatever room there is."""
-    nodes, spelled = checked(rows, names, text)
+def converted(arrow, asyn, asyncgen, rows, names, text, tablet=False):
+    """The rows and the records of the result, whatever room there is. The caller's limits are on the table alone."""
+    nodes, spelled = checked(rows, names, text, tablet)
     conversion = Conversion(arrow, asyn, asyncgen, spelled)
     if conversion.mode == DISABLED:
         return laid(nodes[0]), []
@@ -602,10 +612,10 @@ def converted(arrow, asyn, asyncgen, rows, names, text):
     return laid(conversion.walk(nodes[0])), conversion.records
 
 
-def convert_bytes(arrow, asyn, asyncgen, rows, names, text, lent_rows, lent_records):
+def convert_bytes(arrow, asyn, asyncgen, rows, names, text, lent_rows, lent_records, tablet=False):
     """The entry as the host calls it: bytes in, and how many bytes are lent for rows and for records."""
     try:
-        made, records = converted(arrow, asyn, asyncgen, rows, names, text)
+        made, records = converted(arrow, asyn, asyncgen, rows, names, text, tablet)
         if len(made) > lent_rows // 16 or len(records) > lent_records // 12:
             raise Refused(9, 0)
     except Refused as refused:
@@ -613,10 +623,21 @@ def convert_bytes(arrow, asyn, asyncgen, rows, names, text, lent_rows, lent_reco
     return 0, 0, len(made), len(records), made, records
 
 
-def convert(arrow, asyn, asyncgen, words, pairs, text, room_rows, room_records):
+OPTION_ARROW, OPTION_ASYNC, OPTION_ASYNCGEN, OPTION_TABLET = 1, 2, 4, 8
+
+
+def convert_with(options, rows, names, text, lent_rows, lent_records):
+    """The entry that is told its caller: the switches and the caller are bits of one word. A bit without a name is not
+    looked at."""
+    arrow, asyn, asyncgen, tablet = (
+        options & bit != 0 for bit in (OPTION_ARROW, OPTION_ASYNC, OPTION_ASYNCGEN, OPTION_TABLET))
+    return convert_bytes(arrow, asyn, asyncgen, rows, names, text, lent_rows, lent_records, tablet)
+
+
+def convert(arrow, asyn, asyncgen, words, pairs, text, room_rows, room_records, tablet=False):
     """(number, place, rows, records, row words, record words) for words, name pairs and room in rows and records."""
     names = bytes_of([w for pair in pairs for w in pair])
-    answer = convert_bytes(arrow, asyn, asyncgen, bytes_of(words), names, text, 16 * room_rows, 12 * room_records)
+    answer = convert_bytes(arrow, asyn, asyncgen, bytes_of(words), names, text, 16 * room_rows, 12 * room_records, tablet)
     number, place, rows, records, made, bound = answer
     return number, place, rows, records, [w for row in made for w in row], [w for record in bound for w in record]
 
@@ -808,12 +829,12 @@ ASYNC_ARGUMENTS_RESULT = """
 
 
 def plots():
-    """The sheet and "Plots walked by hand"."""
+    """The sheet and "Plots walked by hand", each for both callers."""
     def plot(what, switches, rows, result, records, names=(), text=b"", room=2048):
-        words = read_rows(rows)
-        got = convert(*switches, words, list(names), text, room, 256)
-        want = read_rows(result)
-        assert got == (0, 0, len(want) // 4, len(records), want, [w for r in records for w in r]), (what, got)
+        words, want = read_rows(rows), read_rows(result)
+        for tablet in (False, True):
+            got = convert(*switches, words, list(names), text, room, 256, tablet)
+            assert got == (0, 0, len(want) // 4, len(records), want, [w for r in records for w in r]), (what, tablet, got)
 
     off, arrows, only_async, only_generators = (0, 0, 0), (1, 0, 0), (0, 1, 0), (0, 0, 1)
     plot("1 the sheet", arrows, SHEET, SHEET_RESULT, [(1, 0, 0)])
@@ -832,23 +853,44 @@ def plots():
     return 10
 
 
+def options():
+    """The bits of the options by hand, on `() => (this, this, ..)` and on the same async, of 512 and of 513 rows."""
+    def answer(word, attr, rows):
+        table = [[0, 0, 0, rows], [1, 0, 0, rows], [16, attr, 0, rows], [18, 0, 0, 4], [26, 0, 0, rows]]
+        table += [[9, 0, 0, at + 1] for at in range(5, rows)]
+        return convert_with(word, bytes_of([w for row in table for w in row]), b"", b"", 16 * 520, 12)[:4]
+
+    # The switches, and how many rows the plain arrow's result and the async one's have more; a capture has a binding.
+    settings = [(0, 0, 0), (1, 5, 3), (2, 0, 3), (3, 5, 3), (4, 0, 0), (5, 5, 3), (6, 0, 3), (7, 5, 3)]
+    for unnamed in (0, 1 << 31):
+        for switches, plain, asyn in settings:
+            word = unnamed + switches
+            for attr, more in ((2, plain), (3, asyn)):
+                bound = 1 if more else 0
+                assert answer(word, attr, 512) == answer(word + 8, attr, 512) == (0, 0, 512 + more, bound), word
+                assert answer(word, attr, 513) == (0, 0, 513 + more, bound), word
+                assert answer(word + 8, attr, 513) == (1, 0, 0, 0), word
+    return 2 * len(settings)
+
+
 def stored_tables():
-    """The answers that stand by hand beside the tables of tables.py, for those with the usual limits."""
+    """The answers that stand by hand beside the tables of tables.py, for those with the limits of a caller."""
     import tables
 
     count = 0
+    callers = {(tables.ROWS, tables.DEPTH): False, (512, 32): True}
 
     def compare(what, rows, number, place, fault=0, names=tables.ABC, text=b"abc", limits=(tables.ROWS, tables.DEPTH),
                 after_rows=0, after_names=0):
         nonlocal count
         if isinstance(rows, tables.Row):
             rows = tables.lay(rows)
-        if limits != (tables.ROWS, tables.DEPTH):
+        if limits not in callers:
             return
         lent = bytes_of([w for row in rows for w in row]) + bytes(after_rows)
         pairs = bytes_of([w for pair in names for w in pair]) + bytes(after_names)
         try:
-            checked(lent, pairs, text)
+            checked(lent, pairs, text, callers[limits])
             got = (0, 0)
         except Refused as refused:
             got = (refused.number, refused.place)
@@ -863,4 +905,4 @@ def stored_tables():
 if __name__ == "__main__":
     if sys.argv[1:] != ["--self-test"]:
         sys.exit(__doc__)
-    print("%d plots and %d stored tables as they should be" % (plots(), stored_tables()))
+    print("%d plots, %d options and %d stored tables as they should be" % (plots(), options(), stored_tables()))

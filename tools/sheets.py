@@ -5,7 +5,8 @@
   sheets.py --count     how many there are, by refusal
 
 Beside each sheet stand by hand the refusal and the place that the request gives. The text that is wanted comes from the
-rendering of the form below, which shares nothing with the crates, and from convert_model.py.
+rendering of the form below, which shares nothing with the crates, and from convert_model.py. The program calls as the
+print room, and so does the model here.
 """
 import re
 import subprocess
@@ -76,7 +77,7 @@ def answer(text):
     for name in names:
         pairs.append((start, len(name)))
         start += len(name)
-    return convert_model.convert(*switches, words, pairs, b"".join(names), 2048, 256)
+    return convert_model.convert(*switches, words, pairs, b"".join(names), 2048, 256, tablet=False)
 
 
 def printed(number, place, rows, records, row_words, record_words):
@@ -134,6 +135,8 @@ def accepted():
     store("a name with a carriage return", text_of(row_lines([[0, 0, 0, 3], [1, 0, 0, 3], [11, 0, 1, 3]]), [b"a\r"]), 0)
     store("a name beyond ASCII", text_of(row_lines([[0, 0, 0, 3], [1, 0, 0, 3], [11, 0, 1, 3]]), ["\u00e9\u20ac".encode()]), 0)
     store("names that look like lines of the form", text_of(SHEET, [b"name", b"1 0 0", SWITCHES, ROWS + b" "]), 0)
+    store("513 rows, one more than a tablet takes", text_of(row_lines(siblings(513))), 0)
+    store("depth 33, one more than a tablet takes", tree_text(deep(34)), 0)
     store("1,024 rows", text_of(row_lines(siblings(1024))), 0)
     store("a name of 255 bytes", text_of(SHEET, [b"a" * 255]), 0)
     store("4,096 names", text_of(SHEET, [b"a"] * 4096), 0)

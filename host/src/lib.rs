@@ -22,7 +22,10 @@
 //! The package has no dependencies. It links `libthawcopper.a`, which `rt staticlib thawcopper` writes; the build script
 //! looks for it in `../target/staticlib`, or in the directory that `THAWCOPPER_LIB_DIR` names. The archive is for x86-64.
 //!
-//! A call takes up to 896 KiB of stack, which a thread of Rust's default size has.
+//! [`convert_with`] takes [`Options`], which beside the [`Switches`] say whether it is the print room that calls, as
+//! [`convert`] does, or a contractors' tablet, which takes smaller tables.
+//!
+//! A call takes up to 896 KiB of stack, which a thread of Rust's default size has; on a tablet 192 KiB are enough.
 
 mod node;
 mod origins;
@@ -57,6 +60,87 @@ impl Switches {
     pub const ASYNC: Switches = Switches { arrow: false, async_to_generator: true, async_generator_functions: true };
     /// Nothing is converted.
     pub const OFF: Switches = Switches { arrow: false, async_to_generator: false, async_generator_functions: false };
+}
+
+/// What is to be converted, and for whom.
+///
+/// The print room takes tables of up to 16,384 rows, nested down to depth 128; a contractors' tablet takes 512 rows and
+/// depth 32. What is beyond the caller's own numbers is refused, by [`Refusal::Sizes`] and [`Refusal::TooDeep`]; all
+/// else is the same for both. So what a tablet accepts, the print room converts to the same rows and bindings. The
+/// limits are on the table that is lent: a result may have more rows.
+///
+/// Options are the print room's until they are told to be a tablet's:
+///
+/// ```
+/// use thawcopper::{convert_with, Node, Options, Refusal, Switches, Table};
+///
+/// let print_room = Options::new(Switches::ARROWS);
+/// let tablet = print_room.tablet(true);
+///
+/// // 256 times `this;`, which are 513 rows
+/// let table = Table::from_tree(&Node::program((0..256).map(|_| Node::statement(Node::this()))));
+/// assert_eq!(convert_with(&print_room, &table).unwrap().rows.len(), 513);
+/// assert_eq!(convert_with(&tablet, &table), Err(Refusal::Sizes));
+/// ```
+///
+/// There may be more of them one day, so they are made by functions, and changed by functions or by their fields. All
+/// that there are now are not enough:
+///
+/// ```compile_fail,E0639
+/// use thawcopper::{Options, Switches};
+///
+/// let tablet = Options { switches: Switches::ARROWS, tablet: true };
+/// ```
+///
+/// ```
+/// use thawcopper::{Options, Switches};
+///
+/// let tablet = Options::new(Switches::ARROWS).tablet(true);
+/// let mut same = Options::from(Switches::ARROWS);
+/// same.tablet = true;
+/// assert_eq!(tablet, same);
+/// ```
+#[derive(Clone, Copy, Debug, Default, PartialEq, Eq, Hash)]
+#[non_exhaustive]
+pub struct Options {
+    /// What is to be converted.
+    pub switches: Switches,
+    /// Whether a tablet calls; else it is the print room.
+    pub tablet: bool,
+}
+
+impl Options {
+    /// The print room's, with these switches.
+    pub const fn new(switches: Switches) -> Options {
+        Options { switches, tablet: false }
+    }
+
+    /// The same options, for a tablet or for the print room.
+    pub const fn tablet(self, tablet: bool) -> Options {
+        Options { tablet, ..self }
+    }
+
+    /// The options as the word that the C entry takes: see [`raw::convert_with`].
+    ///
+    /// ```
+    /// use thawcopper::{raw, Options, Switches};
+    ///
+    /// assert_eq!(Options::default().bits(), 0);
+    /// assert_eq!(Options::new(Switches::ARROWS).tablet(true).bits(), raw::ARROW | raw::TABLET);
+    /// ```
+    pub fn bits(&self) -> u32 {
+        let Switches { arrow, async_to_generator, async_generator_functions } = self.switches;
+        u32::from(arrow) * raw::ARROW
+            | u32::from(async_to_generator) * raw::ASYNC_TO_GENERATOR
+            | u32::from(async_generator_functions) * raw::ASYNC_GENERATORS
+            | u32::from(self.tablet) * raw::TABLET
+    }
+}
+
+impl From<Switches> for Options {
+    fn from(switches: Switches) -> Options {
+        Options::new(switches)
+    }
 }
 
 /// A converted script.
@@ -204,7 +288,7 @@ pub struct Counts {
     pub bindings: usize,
 }
 
-/// Converts a table, with as much room as the result needs. Never answers [`Refusal::NoRoom`].
+/// Converts a table as the print room, with as much room as the result needs. Never answers [`Refusal::NoRoom`].
 ///
 /// ```
 /// use thawcopper::{convert, Node, Refusal, Switches, Table};
@@ -216,6 +300,32 @@ pub struct Counts {
 /// assert_eq!(refusal.to_string(), "row 3: `super` may not stand here");
 /// ```
 pub fn convert(switches: &Switches, table: &Table) -> Result<Converted, Refusal> {
+    convert_with(&Options::new(*switches), table)
+}
+
+/// Converts a table with these options, with as much room as the result needs. Never answers [`Refusal::NoRoom`].
+///
+/// ```
+/// use thawcopper::{convert, convert_with, Node, Options, Refusal, Switches, Table};
+///
+/// // `this` in arrows: the statement has depth 1, the outermost arrow 2 and `this` one more than the innermost.
+/// let script = |arrows: usize| {
+///     let nested = (0..arrows).fold(Node::this(), |inner, _| Node::arrow([], inner));
+///     Table::from_tree(&Node::program([Node::statement(nested)]))
+/// };
+/// let tablet = Options::new(Switches::ARROWS).tablet(true);
+///
+/// // What a tablet accepts is the same in the print room.
+/// let converted = convert_with(&tablet, &script(30)).unwrap();
+/// assert_eq!(converted, convert(&Switches::ARROWS, &script(30)).unwrap());
+///
+/// // An arrow and its Params are two rows, so the row of depth 33 is the Params of the last arrow.
+/// let refusal = convert_with(&tablet, &script(31)).unwrap_err();
+/// assert_eq!(refusal, Refusal::TooDeep { row: 63 });
+/// assert_eq!(refusal.to_string(), "row 63: nested deeper than 128, or than 32 on a tablet");
+/// assert!(convert(&Switches::ARROWS, &script(31)).is_ok());
+/// ```
+pub fn convert_with(options: &Options, table: &Table) -> Result<Converted, Refusal> {
     let given = table.row_bytes().len() / 16;
     // With 8 rows for each row of the table and 11 for each binding the library need not count first; most scripts have
     // fewer bindings than a quarter of their rows. No more than 19 rows are made for one, so this ends.
@@ -224,7 +334,7 @@ pub fn convert(switches: &Switches, table: &Table) -> Result<Converted, Refusal>
     loop {
         let mut rows = vec![0; room_rows];
         let mut bindings = vec![0; room_bindings];
-        match convert_into(switches, table, &mut rows, &mut bindings) {
+        match convert_into_with(options, table, &mut rows, &mut bindings) {
             Err(Refusal::NoRoom) => {
                 room_rows *= 2;
                 room_bindings *= 2;
@@ -240,7 +350,7 @@ pub fn convert(switches: &Switches, table: &Table) -> Result<Converted, Refusal>
     }
 }
 
-/// Converts a table into lent bytes, and allocates nothing.
+/// Converts a table as the print room into lent bytes, and allocates nothing.
 ///
 /// Rows have 16 bytes, four little-endian words; bindings have 12. A refusal leaves all bytes as they were, and an
 /// acceptance those behind the counted rows and bindings. [`Row::list`] and [`Binding::list`] read them.
@@ -263,8 +373,36 @@ pub fn convert_into(
     out_rows: &mut [u8],
     out_bindings: &mut [u8],
 ) -> Result<Counts, Refusal> {
-    let answer =
-        raw::convert(switches, table.row_bytes(), table.name_bytes(), table.text_bytes(), out_rows, out_bindings);
+    let (rows, names, text) = (table.row_bytes(), table.name_bytes(), table.text_bytes());
+    counted(raw::convert(switches, rows, names, text, out_rows, out_bindings))
+}
+
+/// Converts a table with these options into lent bytes, and allocates nothing: [`convert_into`] says what is written.
+///
+/// ```
+/// use thawcopper::{convert_into, convert_into_with, Counts, Node, Options, Switches, Table};
+///
+/// let table = Table::from_tree(&Node::program([Node::statement(Node::arrow([], Node::this()))]));
+/// let tablet = Options::new(Switches::ARROWS).tablet(true);
+/// let (mut rows, mut bindings) = ([0; 16 * 10], [0; 12]);
+/// let counts = convert_into_with(&tablet, &table, &mut rows, &mut bindings).unwrap();
+/// assert_eq!(counts, Counts { rows: 10, bindings: 1 });
+///
+/// let (mut same_rows, mut same_bindings) = ([0; 16 * 10], [0; 12]);
+/// assert_eq!(convert_into(&Switches::ARROWS, &table, &mut same_rows, &mut same_bindings), Ok(counts));
+/// assert_eq!((rows, bindings), (same_rows, same_bindings));
+/// ```
+pub fn convert_into_with(
+    options: &Options,
+    table: &Table,
+    out_rows: &mut [u8],
+    out_bindings: &mut [u8],
+) -> Result<Counts, Refusal> {
+    let (rows, names, text) = (table.row_bytes(), table.name_bytes(), table.text_bytes());
+    counted(raw::convert_with(options.bits(), rows, names, text, out_rows, out_bindings))
+}
+
+fn counted(answer: raw::Answer) -> Result<Counts, Refusal> {
     match Refusal::from_numbers(answer.refusal, answer.place) {
         Some(refusal) => Err(refusal),
         None => Ok(Counts { rows: answer.rows as usize, bindings: answer.bindings as usize }),

@@ -1,9 +1,18 @@
-//! The two C entries with slices for pointers and lengths: bytes in, numbers out, nothing read into them. They are safe
-//! to call with any bytes, because every input is answered.
+//! The three C entries with slices for pointers and lengths: bytes in, numbers out, nothing read into them. They are
+//! safe to call with any bytes and any options, because every input is answered.
 
 use crate::Switches;
 
-/// What `thawcopper_convert` returns: the request's number and place, and the counts.
+/// A bit of the options of [`convert_with`]: arrow functions become functions.
+pub const ARROW: u32 = 1;
+/// A bit of the options: async functions and async arrows will be moved.
+pub const ASYNC_TO_GENERATOR: u32 = 2;
+/// A bit of the options: async generators will be moved.
+pub const ASYNC_GENERATORS: u32 = 4;
+/// A bit of the options: a tablet calls, with its smaller limits.
+pub const TABLET: u32 = 8;
+
+/// What `thawcopper_convert` and `thawcopper_convert_with` return: the request's number and place, and the counts.
 #[repr(C)]
 #[derive(Clone, Copy, Debug, PartialEq, Eq)]
 pub struct Answer {
@@ -39,6 +48,20 @@ extern "C" {
         out_bindings_len: usize,
     ) -> Answer;
 
+    fn thawcopper_convert_with(
+        options: u32,
+        rows: *const u8,
+        rows_len: usize,
+        names: *const u8,
+        names_len: usize,
+        text: *const u8,
+        text_len: usize,
+        out_rows: *mut u8,
+        out_rows_len: usize,
+        out_bindings: *mut u8,
+        out_bindings_len: usize,
+    ) -> Answer;
+
     fn thawcopper_base_text(
         number: u32,
         bindings: *const u8,
@@ -52,7 +75,7 @@ extern "C" {
     ) -> Spelled;
 }
 
-/// `thawcopper_convert`.
+/// `thawcopper_convert`: as the print room.
 pub fn convert(
     switches: &Switches,
     rows: &[u8],
@@ -67,6 +90,34 @@ pub fn convert(
             switches.arrow.into(),
             switches.async_to_generator.into(),
             switches.async_generator_functions.into(),
+            rows.as_ptr(),
+            rows.len(),
+            names.as_ptr(),
+            names.len(),
+            text.as_ptr(),
+            text.len(),
+            out_rows.as_mut_ptr(),
+            out_rows.len(),
+            out_bindings.as_mut_ptr(),
+            out_bindings.len(),
+        )
+    }
+}
+
+/// `thawcopper_convert_with`: the options are bits of one word, [`ARROW`] to [`TABLET`]. A bit without a name is not
+/// looked at. [`Options::bits`](crate::Options::bits) makes the word.
+pub fn convert_with(
+    options: u32,
+    rows: &[u8],
+    names: &[u8],
+    text: &[u8],
+    out_rows: &mut [u8],
+    out_bindings: &mut [u8],
+) -> Answer {
+    // SAFETY: as above.
+    unsafe {
+        thawcopper_convert_with(
+            options,
             rows.as_ptr(),
             rows.len(),
             names.as_ptr(),

@@ -7,11 +7,12 @@ use std::fmt;
 #[derive(Clone, Copy, Debug, PartialEq, Eq, Hash)]
 #[non_exhaustive]
 pub enum Refusal {
-    /// 1: a piece is not whole, the rows are none or over 16,384, the names over 4,096, the text over 65,535 bytes.
+    /// 1: a piece is not whole, the rows are none or over 16,384 (on a tablet over 512), the names over 4,096, the text
+    /// over 65,535 bytes.
     Sizes,
     /// 2: the row has another kind, attr, name, place, end or number of children than it may have.
     BadRow { row: u32 },
-    /// 3: the row is deeper than 128.
+    /// 3: the row is deeper than 128, or on a tablet than 32; row 0 has depth 0.
     TooDeep { row: u32 },
     /// 4: the name is not inside the text, has no or over 255 bytes, or is not UTF-8.
     BadName { name: u32 },
@@ -76,13 +77,13 @@ impl fmt::Display for Refusal {
     fn fmt(&self, f: &mut fmt::Formatter) -> fmt::Result {
         match self {
             Refusal::Sizes => f.write_str(
-                "the table has the wrong size: 1 to 16384 rows, up to 4096 names and up to 65535 bytes of text are \
-                 converted",
+                "the table has the wrong size: 1 to 16384 rows, or to 512 on a tablet, up to 4096 names and up to \
+                 65535 bytes of text are converted",
             ),
             Refusal::BadRow { row } => {
                 write!(f, "row {}: its kind, attr, name, end, place or number of children is not allowed", row)
             }
-            Refusal::TooDeep { row } => write!(f, "row {}: nested deeper than 128", row),
+            Refusal::TooDeep { row } => write!(f, "row {}: nested deeper than 128, or than 32 on a tablet", row),
             Refusal::BadName { name } => {
                 write!(f, "name {}: outside of the text, empty, longer than 255 bytes, or not UTF-8", name)
             }

@@ -1,7 +1,11 @@
 use super::*;
 
+fn reads_this() -> Node {
+    Node::statement(Node::arrow([], Node::this()))
+}
+
 fn sheet() -> Table {
-    Table::from_tree(&Node::program([Node::statement(Node::arrow([], Node::this()))]))
+    Table::from_tree(&Node::program([reads_this()]))
 }
 
 fn rows(list: &[[u32; 4]]) -> Vec<Row> {
@@ -119,6 +123,158 @@ fn refusals_have_numbers_and_words() {
         assert!(place == 0 || words.contains('7'), "{}", words);
     }
     assert_eq!(Refusal::from_numbers(0, 0), None);
+    // Both callers' limits, since a refusal does not know its caller.
+    let sizes = Refusal::Sizes.to_string();
+    assert!(sizes.contains("1 to 16384 rows, or to 512 on a tablet"), "{}", sizes);
+    assert_eq!(Refusal::TooDeep { row: 33 }.to_string(), "row 33: nested deeper than 128, or than 32 on a tablet");
+}
+
+#[test]
+fn options_are_bits_of_one_word() {
+    for bits in 0..16 {
+        let on = |bit: u32| bits & bit != 0;
+        let switches = Switches {
+            arrow: on(raw::ARROW),
+            async_to_generator: on(raw::ASYNC_TO_GENERATOR),
+            async_generator_functions: on(raw::ASYNC_GENERATORS),
+        };
+        let options = Options::new(switches).tablet(on(raw::TABLET));
+        assert_eq!((options.bits(), options.switches, options.tablet), (bits, switches, on(8)));
+        assert_eq!(options.tablet(false), Options::from(switches));
+    }
+    assert_eq!(Options::default(), Options::new(Switches::OFF));
+    assert_eq!(Options::default(), Options { switches: Switches::default(), tablet: false });
+}
+
+/// What the print room answers, and what a tablet does, by every function that converts.
+fn by_callers(switches: &Switches, table: &Table) -> [Result<Converted, Refusal>; 2] {
+    [false, true].map(|tablet| {
+        let options = Options::new(*switches).tablet(tablet);
+        let found = convert_with(&options, table);
+        let (rows, bindings) = found.as_ref().map_or((4, 2), |whole| (whole.rows.len(), whole.bindings.len()));
+        let (mut out_rows, mut out_bindings) = (vec![165; 16 * rows], vec![165; 12 * bindings]);
+        let counts = convert_into_with(&options, table, &mut out_rows, &mut out_bindings);
+        match &found {
+            Ok(whole) => {
+                assert_eq!(counts, Ok(Counts { rows, bindings }));
+                assert_eq!(Row::list(&out_rows), whole.rows);
+                assert_eq!(Binding::list(&out_bindings), whole.bindings);
+            }
+            Err(refusal) => {
+                assert_eq!(counts, Err(*refusal));
+                assert!(out_rows.iter().chain(&out_bindings).all(|byte| *byte == 165));
+            }
+        }
+        if !tablet {
+            let (mut same_rows, mut same_bindings) = (vec![165; 16 * rows], vec![165; 12 * bindings]);
+            assert_eq!(convert_into(switches, table, &mut same_rows, &mut same_bindings), counts);
+            assert_eq!((same_rows, same_bindings), (out_rows, out_bindings));
+            assert_eq!(convert(switches, table), found);
+        }
+        found
+    })
+}
+
+const MODES: [Switches; 5] = [
+    Switches::OFF,
+    Switches::ASYNC,
+    Switches { async_generator_functions: false, ..Switches::ASYNC },
+    Switches { async_to_generator: false, ..Switches::ASYNC },
+    Switches::ARROWS,
+];
+
+#[test]
+fn rows_at_the_limit_of_each_caller() {
+    // () => this; and Returns behind it
+    let wide = |rows: usize| {
+        let returns = (5..rows).map(|_| Node::new(Kind::Return));
+        let table = Table::from_tree(&Node::program(std::iter::once(reads_this()).chain(returns)));
+        assert_eq!(table.rows().len(), rows);
+        table
+    };
+    for switches in MODES {
+        for rows in [511, 512] {
+            let [print_room, tablet] = by_callers(&switches, &wide(rows));
+            assert_eq!(tablet, print_room);
+            assert!(tablet.unwrap().rows.len() >= rows);
+        }
+        for rows in [513, 16_384] {
+            let [print_room, tablet] = by_callers(&switches, &wide(rows));
+            assert_eq!(tablet, Err(Refusal::Sizes));
+            assert!(print_room.unwrap().rows.len() >= rows);
+        }
+        assert_eq!(by_callers(&switches, &wide(16_385)), [Err(Refusal::Sizes), Err(Refusal::Sizes)]);
+    }
+}
+
+#[test]
+fn depth_at_the_limit_of_each_caller() {
+    // A Return, then `this` in arrows: `this` has the depth, and stands behind the Params of the last arrow, which are
+    // as deep.
+    let deep = |depth: usize| {
+        let nested = (0..depth - 2).fold(Node::this(), |inner, _| Node::arrow([], inner));
+        Table::from_tree(&Node::program([Node::new(Kind::Return), Node::statement(nested)]))
+    };
+    for switches in MODES {
+        for depth in [31, 32] {
+            let [print_room, tablet] = by_callers(&switches, &deep(depth));
+            assert_eq!(tablet, print_room);
+            assert!(tablet.is_ok());
+        }
+        for depth in [33, 128] {
+            let [print_room, tablet] = by_callers(&switches, &deep(depth));
+            assert_eq!(tablet, Err(Refusal::TooDeep { row: 64 }));
+            assert!(print_room.is_ok());
+        }
+        let refused = [Refusal::TooDeep { row: 256 }, Refusal::TooDeep { row: 64 }];
+        assert_eq!(by_callers(&switches, &deep(129)), refused.map(Err));
+    }
+}
+
+#[test]
+fn what_a_tablet_accepts_is_the_same_in_the_print_room() {
+    let called = || Node::statement(Node::call(Node::super_(), []));
+    let access = || Node::member(Node::super_(), "p");
+    let moved = Node::arrow([], Node::call(Node::ident("f"), [Node::ident("arguments"), Node::this()])).async_();
+    let tables = [
+        sheet(),
+        Table::from_tree(&Node::program([Node::statement(moved)])),
+        in_async_method([Node::statement(Node::call(access(), [Node::this()]))]),
+        in_async_method([Node::statement(Node::assign(access(), Node::arrow([], Node::this())))]),
+        in_constructor([called(), reads_this()]),
+        in_constructor([Node::return_(Node::sequence([Node::call(Node::super_(), []), access()])), reads_this()]),
+    ];
+    for table in tables {
+        for switches in MODES {
+            let [print_room, tablet] = by_callers(&switches, &table);
+            assert!(tablet.is_ok());
+            assert_eq!(tablet, print_room);
+        }
+    }
+    // And so is what it refuses, unless it is at its own limits.
+    let outside = Table::from_tree(&Node::program([Node::statement(access())]));
+    assert_eq!(
+        by_callers(&Switches::ARROWS, &outside),
+        [Err(Refusal::Super { row: 3 }), Err(Refusal::Super { row: 3 })]
+    );
+}
+
+#[test]
+fn a_result_may_have_more_rows_than_a_tablet_takes() {
+    // 127 times `() => this`: a row and 4 for each become a row, a Var of 3 and 6 for each.
+    let table = Table::from_tree(&Node::program((0..127).map(|_| reads_this())));
+    assert_eq!(table.rows().len(), 509);
+    let [print_room, tablet] = by_callers(&Switches::ARROWS, &table);
+    assert_eq!(tablet, print_room);
+    let converted = tablet.unwrap();
+    assert_eq!((converted.rows.len(), converted.bindings.len()), (766, 1));
+    // 125 accessors: more bindings than there is room for at first.
+    let reads = (0..125).map(|n| Node::statement(Node::member(Node::super_(), &format!("p{}", n))));
+    let table = in_async_method(reads);
+    assert_eq!(table.rows().len(), 6 + 3 * 125);
+    let [print_room, tablet] = by_callers(&Switches::ASYNC, &table);
+    assert_eq!(tablet, print_room);
+    assert_eq!(tablet.unwrap().rows.len(), 6 + 1 + (5 + 3) * 125);
 }
 
 #[test]

@@ -1,4 +1,5 @@
-/* Compiled and run by tests/header.rs: the worked example through include/thawcopper.h. Prints `ok`. */
+/* Compiled and run by tests/header.rs: the worked example through include/thawcopper.h, by each entry, and a table that
+ * only the print room takes. Prints `ok`. */
 #include "thawcopper.h"
 
 #include <stdio.h>
@@ -11,6 +12,23 @@ static size_t put(uint8_t *to, const uint32_t *words, size_t count) {
         }
     }
     return 4 * count;
+}
+
+/* A Program with Returns, so many rows in all. */
+static size_t returns(uint8_t *to, uint32_t rows) {
+    for (uint32_t row = 0; row < rows; row++) {
+        const uint32_t words[] = {row == 0 ? 0u : 4u, 0, 0, row == 0 ? rows : row + 1};
+        put(to + 16 * row, words, 4);
+    }
+    return 16 * (size_t)rows;
+}
+
+static int is(const char *what, thawcopper_answer answer, uint32_t refusal, uint32_t rows, uint32_t bindings) {
+    if (answer.refusal == refusal && answer.place == 0 && answer.rows == rows && answer.bindings == bindings) {
+        return 1;
+    }
+    printf("%s: answer %u %u %u %u\n", what, answer.refusal, answer.place, answer.rows, answer.bindings);
+    return 0;
 }
 
 int main(void) {
@@ -26,8 +44,7 @@ int main(void) {
 
     thawcopper_answer answer = thawcopper_convert(1, 0, 0, rows, length, none, 0, none, 0, out_rows, sizeof out_rows,
                                                   out_bindings, sizeof out_bindings);
-    if (answer.refusal != THAWCOPPER_ACCEPTED || answer.place != 0 || answer.rows != 10 || answer.bindings != 1) {
-        printf("answer %u %u %u %u\n", answer.refusal, answer.place, answer.rows, answer.bindings);
+    if (!is("convert", answer, THAWCOPPER_ACCEPTED, 10, 1)) {
         return 1;
     }
     if (memcmp(out_rows, expected, result) != 0 || out_rows[result] != 165) {
@@ -55,9 +72,48 @@ int main(void) {
         return 1;
     }
     answer = thawcopper_convert(1, 0, 0, rows, length, none, 0, none, 0, out_rows, result - 1, out_bindings, 12);
-    if (answer.refusal != THAWCOPPER_NO_ROOM) {
-        printf("answer %u where there is no room\n", answer.refusal);
+    if (!is("no room", answer, THAWCOPPER_NO_ROOM, 0, 0)) {
         return 1;
+    }
+
+    /* The same with options, in the print room and on a tablet. */
+    static const uint32_t options[] = {THAWCOPPER_ARROW, THAWCOPPER_ARROW | THAWCOPPER_TABLET};
+    for (size_t i = 0; i < sizeof options / sizeof *options; i++) {
+        memset(out_rows, 165, sizeof out_rows);
+        memset(out_bindings, 165, sizeof out_bindings);
+        answer = thawcopper_convert_with(options[i], rows, length, none, 0, none, 0, out_rows, sizeof out_rows,
+                                         out_bindings, sizeof out_bindings);
+        if (!is("convert_with", answer, THAWCOPPER_ACCEPTED, 10, 1)) {
+            return 1;
+        }
+        if (memcmp(out_rows, expected, result) != 0 || out_rows[result] != 165 ||
+            memcmp(out_bindings, records, 12) != 0 || out_bindings[12] != 165) {
+            printf("the rows or bindings differ with options %u\n", options[i]);
+            return 1;
+        }
+    }
+
+    /* A tablet takes 512 rows. The last bit has no name. */
+    static const struct {
+        uint32_t rows, options, refusal;
+    } calls[] = {{512, THAWCOPPER_TABLET, THAWCOPPER_ACCEPTED},
+                 {513, THAWCOPPER_TABLET, THAWCOPPER_SIZES},
+                 {513, 0, THAWCOPPER_ACCEPTED},
+                 {513, 0x80000000u, THAWCOPPER_ACCEPTED}};
+    static uint8_t large[513 * 16], copied[513 * 16];
+    for (size_t i = 0; i < sizeof calls / sizeof *calls; i++) {
+        int accepted = calls[i].refusal == THAWCOPPER_ACCEPTED;
+        length = returns(large, calls[i].rows);
+        memset(copied, 165, sizeof copied);
+        answer = thawcopper_convert_with(calls[i].options, large, length, none, 0, none, 0, copied, sizeof copied,
+                                         none, 0);
+        if (!is("many rows", answer, calls[i].refusal, accepted ? calls[i].rows : 0, 0)) {
+            return 1;
+        }
+        if (accepted ? memcmp(copied, large, length) != 0 : copied[0] != 165) {
+            printf("the rows differ for %u with options %u\n", calls[i].rows, calls[i].options);
+            return 1;
+        }
     }
     printf("ok\n");
     return 0;

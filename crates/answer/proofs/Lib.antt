@@ -1,3 +1,4 @@
 pub mod Answering
 pub mod Owning
 pub mod Small
+pub mod Callers

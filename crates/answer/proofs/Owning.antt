@@ -9,6 +9,7 @@ use lib.ListN.{length, take, drop}
 use lib.Seq.{take-at}
 use Rattle.names.specs.Words.{words}
 use Rattle.forest.specs.Forest.{Rows, size, flat, rowsAt, table}
+use Rattle.rows.specs.Limits.{rowLimitOf, depthLimitOf}
 use Rattle.rows.specs.Refusals.{checked}
 use Rattle.names.specs.declared.Found.{Found}
 use Rattle.names.specs.declared.Found.the-variants.{At, Nothing}
@@ -27,7 +28,7 @@ use Rattle.steps.proofs.Acceptance.{Converted, converts, owner-rule}
 use Rattle.output.specs.Output.{le32}
 use Rattle.output.specs.Bytes.{bytesOf}
 use Rattle.output.proofs.Placing.{length-bytes}
-use Rattle.answer.specs.Converting.{lentRoom, atFront, Answers, recordsIn, resultIn, KeepsOwners}
+use Rattle.answer.specs.Converting.{lentRoom, outcomeAs, atFront, Answers, recordsIn, resultIn, KeepsOwners, Converts}
 
 -- the bytes of words read back as those words
 words-back : (ws : List ℕ) → words (bytesOf ws) ≡ ws
@@ -114,11 +115,14 @@ module _ (rowLimit depthLimit : ℕ) (w : Switches) (rows names text outRows out
         → KeepsOwners w rows number n m outRows′ outBindings′
     keeps-owners a = keeps-at O refl outcome-numbered a
 
-    pub promised : Answers O number place n m outRows outRows′ outBindings outBindings′
-        → Answers O number place n m outRows outRows′ outBindings outBindings′ × KeepsOwners w rows number n m outRows′ outBindings′
-    promised a = (a, keeps-owners a)
+-- the whole promise follows from the answer
+pub promised : (tablet : Bool) (w : Switches) (rows names text outRows outBindings : List ℕ) (number place n m : ℕ) (outRows′ outBindings′ : List ℕ)
+    → Answers (outcomeAs tablet w rows names text (lentRoom outRows outBindings)) number place n m outRows outRows′ outBindings outBindings′
+    → Converts tablet w rows names text number place n m outRows outRows′ outBindings outBindings′
+promised tablet w rows names text outRows outBindings number place n m outRows′ outBindings′ a =
+    record { answers = a; owners = keeps-owners (rowLimitOf tablet) (depthLimitOf tablet) w rows names text outRows outBindings number place n m outRows′ outBindings′ a }
 
-    -- the same in other numbers that are equal
-    pub renumbered : (number′ place′ n′ m′ : ℕ) → number′ ≡ number → place′ ≡ place → n′ ≡ n → m′ ≡ m → Answers O number place n m outRows outRows′ outBindings outBindings′
-        → Answers O number′ place′ n′ m′ outRows outRows′ outBindings outBindings′ × KeepsOwners w rows number′ n′ m′ outRows′ outBindings′
-    renumbered number′ place′ n′ m′ a b c d h = rw (a, b, c, d) (promised h)
+-- and holds in other numbers that are equal
+pub renumbered : {tablet : Bool} {w : Switches} {rows names text outRows outBindings : List ℕ} {number place n m : ℕ} {outRows′ outBindings′ : List ℕ} (number′ place′ n′ m′ : ℕ) → number′ ≡ number → place′ ≡ place → n′ ≡ n → m′ ≡ m
+    → Converts tablet w rows names text number place n m outRows outRows′ outBindings outBindings′ → Converts tablet w rows names text number′ place′ n′ m′ outRows outRows′ outBindings outBindings′
+renumbered number′ place′ n′ m′ a b c d h = rw (a, b, c, d) h

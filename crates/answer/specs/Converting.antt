@@ -1,11 +1,12 @@
 -- What `convert` promises: of every number returned and of every word lent. Assumes nothing.
 use mathlib.Core.Path.{_≡_}
 use mathlib.Core.List.{List, [], _∷_, _++_}
-use mathlib.Core.Bool.{false}
+use mathlib.Core.Bool.{Bool, false}
 use Prim.Native.Nat.{ℕ, _*_, _/_}
 use lib.ListN.{length, take, drop}
 use Rattle.names.specs.Words.{words}
 use Rattle.forest.specs.Forest.{rowsAt, table}
+use Rattle.rows.specs.Limits.{rowLimitOf, depthLimitOf}
 use Rattle.steps.specs.Mode.{Switches}
 use Rattle.steps.specs.Bindings.{Binding, Binding.bind}
 use Rattle.steps.specs.Steps.{Result}
@@ -17,9 +18,13 @@ use Rattle.output.specs.Bytes.{bytesOf}
 abbrev pub lentRoom : (outRows outBindings : List ℕ) → Room
 lentRoom outRows outBindings = record { rows = length outRows / 16; bindings = length outBindings / 12 }
 
--- "rows 0 or over 16,384"; "depth over 128"
+-- what a caller is answered, given its room: "1 and 3 are given at the caller's own numbers"
+abbrev pub outcomeAs : (tablet : Bool) → Switches → (rows names text : List ℕ) → Room → Outcome
+outcomeAs tablet w rows names text room = outcome (rowLimitOf tablet) (depthLimitOf tablet) w rows names text room
+
+-- and what the print room is, by what it lends
 abbrev pub outcomeOf : Switches → (rows names text outRows outBindings : List ℕ) → Outcome
-outcomeOf w rows names text outRows outBindings = outcome 16384 128 w rows names text (lentRoom outRows outBindings)
+outcomeOf w rows names text outRows outBindings = outcomeAs false w rows names text (lentRoom outRows outBindings)
 
 -- The number and the place of an outcome, and the words that it writes. "Every refusal .. writes nothing. An acceptance has number 0, place 0".
 abbrev pub numberIn : Outcome → ℕ
@@ -70,3 +75,8 @@ resultIn rows bindings outRows outBindings =
 abbrev pub KeepsOwners : Switches → (rows : List ℕ) (number writtenRows writtenBindings : ℕ) (outRows outBindings : List ℕ) → Type 0
 KeepsOwners w rows number writtenRows writtenBindings outRows outBindings =
     w ≡ arrowsOn → number ≡ 0 → Calm atTop atTop false (table rows) → OwnersKept (table rows) (resultIn writtenRows writtenBindings outRows outBindings)
+
+-- What `convert` promises a caller: the answer, and demand 3. "The owner rule speaks of tables accepted under either"
+pub record Converts (tablet : Bool) (w : Switches) (rows names text : List ℕ) (number place writtenRows writtenBindings : ℕ) (outRows outRows′ outBindings outBindings′ : List ℕ) : Type 0 where
+  pub answers : Answers (outcomeAs tablet w rows names text (lentRoom outRows outBindings)) number place writtenRows writtenBindings outRows outRows′ outBindings outBindings′
+  pub owners : KeepsOwners w rows number writtenRows writtenBindings outRows′ outBindings′

@@ -1,5 +1,6 @@
 -- From an answer of `convert` to the text of the program. Assumes nothing.
 use mathlib.Core.Path.{_≡_, refl, sym, ap, ap₂, subst, _∙_}
+use mathlib.Core.Bool.{false}
 use mathlib.Core.List.{List, [], _∷_}
 use Prim.Native.Nat.{ℕ, _+_, _*_, _/_, _%_, _≤_}
 use native.Mathlib.Omega.{arith}
@@ -7,11 +8,11 @@ use lib.ListN.{length, take, drop, length-append}
 use lib.Seq.{sets-eq, length-sets, take-at}
 use Rattle.names.specs.Words.{words}
 use Rattle.steps.specs.Mode.{Switches}
-use Rattle.steps.specs.Outcome.{Outcome, outcome}
+use Rattle.steps.specs.Outcome.{Outcome}
 use Rattle.output.specs.Output.{le32}
 use Rattle.output.specs.Bytes.{bytesOf}
 use Rattle.output.proofs.Placing.{length-bytes}
-use Rattle.answer.specs.Converting.{outcomeOf, numberIn, placeIn, rowWords, recordWords, atFront, Answers}
+use Rattle.answer.specs.Converting.{outcomeAs, outcomeOf, numberIn, placeIn, rowWords, recordWords, atFront, Answers}
 use Rattle.printer.specs.Print.{printed, Wrote}
 use Rattle.convert.specs.Output.{answer, outcomeFor, Shows}
 
@@ -53,7 +54,7 @@ module _ (o : Outcome) (number place n m : ℕ) (rows rows′ records records′
 pub lent-room : (w : Switches) (rows names text outRows outRecords : List ℕ) → 32768 ≡ length outRows → 3072 ≡ length outRecords
     → outcomeOf w rows names text outRows outRecords ≡ outcomeFor w rows names text
 lent-room w rows names text outRows outRecords e f =
-    ap₂ (λ (x y : ℕ). outcome 16384 128 w rows names text (record { rows = x / 16; bindings = y / 12 })) (sym e) (sym f)
+    ap₂ (λ (x y : ℕ). outcomeAs false w rows names text (record { rows = x / 16; bindings = y / 12 })) (sym e) (sym f)
 
 -- what was written whole stands at the front
 pub shows : (l m bs : List ℕ) (r : ℕ) → Wrote l 0 bs r m → r ≤ length l → Shows bs r m

@@ -1,14 +1,14 @@
 -- What the program prints for each standard input. Assumes nothing.
 use mathlib.Core.Path.{_≡_}
-use mathlib.Core.Bool.{cond}
+use mathlib.Core.Bool.{false, cond}
 use mathlib.Core.List.{List, []}
 use Prim.Native.Nat.{ℕ, _≤_}
 use lib.ListN.{length, take}
 use lib.Dec.{eqb}
 use Rattle.steps.specs.Mode.{Switches}
-use Rattle.steps.specs.Outcome.{Outcome, Room, outcome}
+use Rattle.steps.specs.Outcome.{Outcome, Room}
 use Rattle.output.specs.Bytes.{bytesOf}
-use Rattle.answer.specs.Converting.{numberIn, placeIn, rowWords, recordWords}
+use Rattle.answer.specs.Converting.{outcomeAs, numberIn, placeIn, rowWords, recordWords}
 use Rattle.printer.specs.Print.{printed}
 use Rattle.parser.specs.Parse.{Read, Read.sheet, Read.faulty, joined, pairsFrom, sheetOf}
 
@@ -20,9 +20,9 @@ room = record { rows = 2048; bindings = 256 }
 abbrev pub answer : Outcome → List ℕ
 answer o = printed (numberIn o) (placeIn o) (rowWords o) (recordWords o)
 
--- "rows 0 or over 16,384"; "depth over 128"
+-- "the program calls as the print room"
 abbrev pub outcomeFor : Switches → (rows names text : List ℕ) → Outcome
-outcomeFor w rows names text = outcome 16384 128 w rows names text room
+outcomeFor w rows names text = outcomeAs false w rows names text room
 
 -- 12, "program only, tested first", or what becomes of the sheet
 abbrev pub answerTo : Read → List ℕ

@@ -80,7 +80,7 @@ fn print_converted(c: Converted, rows: &[u8], records: &[u8], out: &mut [u8]) ->
     print(number, place, &rows[..n], &records[..m], out)
 }
 
-// The answer to a sheet: its table is converted, and the result printed.
+// The answer to a sheet: its table is converted as the print room's, and the result printed.
 fn answer_sheet(
     arrow: bool,
     to_generator: bool,
@@ -100,7 +100,15 @@ fn answer_sheet(
         async_to_generator: to_generator,
         async_generator_functions: generators,
     };
-    let converted = convert(switches, rows, pairs, text, &mut result, &mut records);
+    let converted = convert(
+        false,
+        switches,
+        rows,
+        pairs,
+        text,
+        &mut result,
+        &mut records,
+    );
     print_converted(converted, &result, &records, out)
 }
 

@@ -5,23 +5,19 @@ use acts::switches::Switches;
 use answer::Converted;
 use refusals::refusal;
 use result::result;
-use rows::Limits;
 use rows::check;
+use rows::limits_for;
 use steps::ArrowFunctionConverter;
 ghost use mathlib.Core.Path.{_≡_};
 ghost use Rattle.acts.specs.View.{switchesOf};
 ghost use Rattle.answer.specs.Answer as answers;
-ghost use Rattle.answer.specs.Converting.{outcomeOf, Answers, KeepsOwners};
+ghost use Rattle.answer.specs.Converting.{Converts};
 
-// "rows 0 or over 16,384"
-const MOST_ROWS: usize = 16384;
-
-// "depth over 128, row 0 having depth 0"
-const DEEPEST: usize = 128;
-
-// Converts a table: the rows of the result go to the front of `out_rows`, the records of its bindings
-// to the front of `out_bindings`. Every input is answered. A refusal leaves both as they were.
+// Converts a table of either caller: the rows of the result go to the front of `out_rows`, the records
+// of its bindings to the front of `out_bindings`. Every input is answered. A refusal leaves both as they
+// were. The limits are on what is lent, and only `check` knows them.
 pub fn convert(
+    tablet: bool,
     switches: Switches,
     rows: &[u8],
     names: &[u8],
@@ -29,15 +25,10 @@ pub fn convert(
     out_rows: &mut [u8],
     out_bindings: &mut [u8],
 ) -> Converted
-    ensures { λ r. ⌜ Answers (outcomeOf (switchesOf switches) (now (rows .entry)) (now (names .entry)) (now (text .entry)) (now («out_rows» .entry)) (now («out_bindings» .entry)))
-        (answers.numberOf r) (answers.placeOf r) (answers.rowsOf r) (answers.bindingsOf r)
+    ensures { λ r. ⌜ Converts tablet (switchesOf switches) (now (rows .entry)) (now (names .entry)) (now (text .entry)) (answers.numberOf r) (answers.placeOf r) (answers.rowsOf r) (answers.bindingsOf r)
         (now («out_rows» .entry)) (now («out_rows» .exit)) (now («out_bindings» .entry)) (now («out_bindings» .exit)) ⌝ }
-    ensures { λ r. ⌜ KeepsOwners (switchesOf switches) (now (rows .entry)) (answers.numberOf r) (answers.rowsOf r) (answers.bindingsOf r) (now («out_rows» .exit)) (now («out_bindings» .exit)) ⌝ }
 {
-    let limits = Limits {
-        rows: MOST_ROWS,
-        depth: DEEPEST,
-    };
+    let limits = limits_for(tablet);
     let checked = check(rows, names, text, limits);
     if checked.number() != 0 {
         return Converted::Unsound { checked };

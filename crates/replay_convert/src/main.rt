@@ -1,4 +1,4 @@
-// Runs the stored conversions of the standard input through `thawcopper_convert` and compares each answer, and every byte
+// Runs the stored conversions of the standard input through `thawcopper_convert_with` and compares each answer, and every byte
 // lent, with the stored ones. The input's head comment describes its form. A conversion that differs has a line of its own;
 // the last line counts both.
 use thawcopper::Answer;
@@ -99,12 +99,10 @@ fn answer_at(words: &[u32], at: usize) -> Answer
     }
 }
 
-// What a conversion asks for: its own number, the switches, and how many bytes are lent for rows and for records.
+// What a conversion asks for: its own number, the options, and how many bytes are lent for rows and for records.
 struct Asked {
     number: usize,
-    arrow: u32,
-    async_to_generator: u32,
-    async_generator_functions: u32,
+    options: u32,
     rows: usize,
     records: usize,
 }
@@ -114,11 +112,9 @@ fn asked_at(words: &[u32], from: usize) -> Asked
 {
     Asked {
         number: input::word(words, from) as usize,
-        arrow: input::word(words, from + 1),
-        async_to_generator: input::word(words, from + 2),
-        async_generator_functions: input::word(words, from + 3),
-        rows: input::word(words, from + 4) as usize,
-        records: input::word(words, from + 5) as usize,
+        options: input::word(words, from + 1),
+        rows: input::word(words, from + 2) as usize,
+        records: input::word(words, from + 3) as usize,
     }
 }
 
@@ -135,10 +131,8 @@ fn run(
     let r = runs::within(b.first, table);
     let p = runs::within(b.pairs, pairs);
     let x = runs::within(b.text, text);
-    thawcopper::thawcopper_convert(
-        a.arrow,
-        a.async_to_generator,
-        a.async_generator_functions,
+    thawcopper::thawcopper_convert_with(
+        a.options,
         &table[..r],
         &pairs[..p],
         &text[..x],
@@ -355,7 +349,7 @@ fn run_case(
     ensures { λ r. ⌜ (r .differ ≤ 1) × (from < r .at) × (r .at ≤ count) ⌝ }
 {
     let a = asked_at(words, from);
-    let b = runs::build(words, from + 6, 4, table, pairs, text);
+    let b = runs::build(words, from + 4, 4, table, pairs, text);
     if count < b.at {
         return bad_data(n, count);
     }

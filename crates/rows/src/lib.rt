@@ -9,12 +9,39 @@ use names::Found;
 ghost use mathlib.Core.Path.{_≡_};
 ghost use mathlib.Core.Bool.{Bool};
 ghost use Prim.Native.Nat.{ℕ, _≤_};
+ghost use Rattle.rows.specs.Limits.{rowLimitOf, depthLimitOf};
 ghost use Rattle.rows.specs.Refusals.{numberOf, placeFor, limited, sizesOk, checked};
 
 // How large a table may be. A limit over 16,384 counts as 16,384.
 pub struct Limits {
     pub rows: usize,
     pub depth: usize,
+}
+
+// "The contractors' tablet build takes at most 512 rows and depth 32;
+const TABLET_ROWS: usize = 512;
+
+const TABLET_DEPTH: usize = 32;
+
+// the print room keeps 16,384 and 128."
+const PRINT_ROOM_ROWS: usize = 16384;
+
+const PRINT_ROOM_DEPTH: usize = 128;
+
+// The limits of a caller, which is a tablet or the print room.
+pub fn limits_for(tablet: bool) -> Limits
+    ensures { λ r. ⌜ (r .rows ≡ rowLimitOf tablet) × (r .depth ≡ depthLimitOf tablet) ⌝ }
+{
+    if tablet {
+        return Limits {
+            rows: TABLET_ROWS,
+            depth: TABLET_DEPTH,
+        };
+    }
+    Limits {
+        rows: PRINT_ROOM_ROWS,
+        depth: PRINT_ROOM_DEPTH,
+    }
 }
 
 // What the checks of this layer say of a table.

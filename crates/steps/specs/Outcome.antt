@@ -54,7 +54,7 @@ within room r =
     (converted (flat 0 (r .rows)) (records (r .bindings)))
     (refused 9 0)
 
--- "Tested in the order 1, 4, 2, 3, 5, 6, 7, 8, 9, each over the whole table before the next." The limits are those of rows and depth: 16,384 and 128.
+-- "Tested in the order 1, 4, 2, 3, 5, 6, 7, 8, 9, each over the whole table before the next." The limits are those of rows and depth that a caller has.
 unfoldable pub outcome : (rowLimit depthLimit : ℕ) → Switches → (rows names text : List ℕ) → Room → Outcome
 outcome rowLimit depthLimit w rows names text room =
     unlessRefused (checked rowLimit depthLimit rows names text)

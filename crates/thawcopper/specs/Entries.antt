@@ -5,7 +5,7 @@ use mathlib.Core.Bool.{Bool, not}
 use mathlib.Core.List.{List, _++_}
 use lib.Dec.{eqb}
 use lib.ListN.{take, drop}
-use Rattle.steps.specs.Mode.{Switches, switches}
+use Rattle.steps.specs.Mode.{Switches, switches, bit}
 use Rattle.base_text.specs.Refusals.{numberOf, placeOf, countOf}
 use Rattle.base_text.specs.declared.Spelling.{Spelling}
 
@@ -16,9 +16,16 @@ pub record BaseTextAnswered (refusal place bytes : ℕ) (answer : Spelling) (tex
   pub counted : bytes ≡ countOf answer
   pub written : after ≡ take (countOf answer) text ++ drop (countOf answer) before
 
--- Convert: a switch is on where it is not 0. What it answers is `Answers` of the converter's specs/Converting.antt, in these numbers.
+-- Convert: a switch is on where it is not 0. What it promises is `Converts` of answer/specs/Converting.antt, in these numbers.
 abbrev pub on : ℕ → Bool
 on x = not (eqb x 0)
 
 abbrev pub switchesFrom : (arrow asyncToGenerator asyncGeneratorFunctions : ℕ) → Switches
 switchesFrom arrow asyncToGenerator asyncGeneratorFunctions = switches (on arrow) (on asyncToGenerator) (on asyncGeneratorFunctions)
+
+-- Convert with options: "bits 1 arrow, 2 async-to-generator, 4 async generators, 8 tablet". A bit without a name is not looked at.
+abbrev pub switchesIn : (options : ℕ) → Switches
+switchesIn options = switches (bit 1 options) (bit 2 options) (bit 4 options)
+
+abbrev pub onTablet : (options : ℕ) → Bool
+onTablet options = bit 8 options

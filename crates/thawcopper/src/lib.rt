@@ -1,16 +1,19 @@
 // The C boundary: what a host links against. A slice is a pointer and a length, words are
 // little-endian. Every input is answered, and a refusal leaves what was lent as it was.
 use acts::switches::Switches;
+use acts::switches::has_bit;
 use answer::Converted;
 use base_text::Spelling;
 use converter::convert;
 ghost use mathlib.Core.Path.{_≡_};
+ghost use mathlib.Core.Bool.{false};
 ghost use Prim.Native.Nat.{ℕ, _<_, _^_};
 ghost use lib.ListN.{length};
 ghost use Rattle.base_text.specs.Refusals.{numberOf, placeOf, countOf, baseText, spelled};
 ghost use Rattle.answer.specs.Answer as answers;
-ghost use Rattle.answer.specs.Converting.{outcomeOf, Answers, KeepsOwners};
-ghost use Rattle.thawcopper.specs.Entries.{BaseTextAnswered, switchesFrom};
+ghost use Rattle.answer.specs.Converting.{Converts};
+ghost use Rattle.acts.specs.View.{switchesOf};
+ghost use Rattle.thawcopper.specs.Entries.{BaseTextAnswered, switchesFrom, onTablet, switchesIn};
 
 // What base text answers: the request's number and place, and how many bytes were written.
 #[repr(C)]
@@ -86,8 +89,24 @@ fn answer_of(converted: Converted) -> Answer
     }
 }
 
-// Converts a table: the rows of the result go to the front of `out_rows`, the records of its bindings
-// to the front of `out_bindings`. A switch is on where it is not 0.
+// A table of either caller converted, and the numbers of the answer.
+fn converted(
+    tablet: bool,
+    switches: Switches,
+    rows: &[u8],
+    names: &[u8],
+    text: &[u8],
+    out_rows: &mut [u8],
+    out_bindings: &mut [u8],
+) -> Answer
+    ensures { λ r. ⌜ Converts tablet (switchesOf switches) (now (rows .entry)) (now (names .entry)) (now (text .entry))
+        (r .refusal) (r .place) (r .rows) (r .bindings) (now («out_rows» .entry)) (now («out_rows» .exit)) (now («out_bindings» .entry)) (now («out_bindings» .exit)) ⌝ }
+{
+    answer_of(convert(tablet, switches, rows, names, text, out_rows, out_bindings))
+}
+
+// Converts a table of the print room: the rows of the result go to the front of `out_rows`, the records
+// of its bindings to the front of `out_bindings`. A switch is on where it is not 0.
 #[no_mangle]
 pub extern "C" fn thawcopper_convert(
     arrow: u32,
@@ -99,14 +118,37 @@ pub extern "C" fn thawcopper_convert(
     out_rows: &mut [u8],
     out_bindings: &mut [u8],
 ) -> Answer
-    ensures { λ r. ⌜ Answers (outcomeOf (switchesFrom arrow «async_to_generator» «async_generator_functions») (now (rows .entry)) (now (names .entry)) (now (text .entry)) (now («out_rows» .entry)) (now («out_bindings» .entry)))
+    ensures { λ r. ⌜ Converts false (switchesFrom arrow «async_to_generator» «async_generator_functions») (now (rows .entry)) (now (names .entry)) (now (text .entry))
         (r .refusal) (r .place) (r .rows) (r .bindings) (now («out_rows» .entry)) (now («out_rows» .exit)) (now («out_bindings» .entry)) (now («out_bindings» .exit)) ⌝ }
-    ensures { λ r. ⌜ KeepsOwners (switchesFrom arrow «async_to_generator» «async_generator_functions») (now (rows .entry)) (r .refusal) (r .rows) (r .bindings) (now («out_rows» .exit)) (now («out_bindings» .exit)) ⌝ }
 {
     let switches = Switches {
         arrow_function: arrow != 0,
         async_to_generator: async_to_generator != 0,
         async_generator_functions: async_generator_functions != 0,
     };
-    answer_of(convert(switches, rows, names, text, out_rows, out_bindings))
+    converted(false, switches, rows, names, text, out_rows, out_bindings)
+}
+
+// The same for either caller, by the bits of `options`: 1 arrow, 2 async-to-generator, 4 async
+// generators, 8 tablet. A bit without a name is not looked at.
+#[no_mangle]
+pub extern "C" fn thawcopper_convert_with(
+    options: u32,
+    rows: &[u8],
+    names: &[u8],
+    text: &[u8],
+    out_rows: &mut [u8],
+    out_bindings: &mut [u8],
+) -> Answer
+    ensures { λ r. ⌜ Converts (onTablet options) (switchesIn options) (now (rows .entry)) (now (names .entry)) (now (text .entry))
+        (r .refusal) (r .place) (r .rows) (r .bindings) (now («out_rows» .entry)) (now («out_rows» .exit)) (now («out_bindings» .entry)) (now («out_bindings» .exit)) ⌝ }
+{
+    let bits = options as usize;
+    let switches = Switches {
+        arrow_function: has_bit(1, bits),
+        async_to_generator: has_bit(2, bits),
+        async_generator_functions: has_bit(4, bits),
+    };
+    let tablet = has_bit(8, bits);
+    converted(tablet, switches, rows, names, text, out_rows, out_bindings)
 }

@@ -54,7 +54,7 @@ impl Lent {
             async_generator_functions: switches.async_generator_functions,
         };
         let _ = black_box(reference::convert(
-            switches,
+            reference::Options { switches, tablet: false },
             &self.rows,
             &self.names,
             &self.text,

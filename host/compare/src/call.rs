@@ -2,10 +2,10 @@
 
 use std::panic::{catch_unwind, AssertUnwindSafe};
 
-use thawcopper::{raw, Binding, Converted, Row, Switches};
+use thawcopper::{raw, Binding, Converted, Options, Row, Switches};
 use thawcopper_reference as reference;
 
-/// Bytes of a table, and the switches.
+/// Bytes of a table.
 #[derive(Clone)]
 pub struct Table {
     pub rows: Vec<[u32; 4]>,
@@ -35,11 +35,58 @@ pub const EIGHT: [Switches; 8] = {
     list
 };
 
-pub fn of_reference(s: Switches) -> reference::Switches {
+fn of_reference(s: Switches) -> reference::Switches {
     reference::Switches {
         arrow: s.arrow,
         async_to_generator: s.async_to_generator,
         async_generator_functions: s.async_generator_functions,
+    }
+}
+
+/// The entry that is called, with what it is told beside a table.
+#[derive(Clone, Copy, Debug)]
+pub enum Entry {
+    /// `thawcopper_convert`.
+    Convert(Switches),
+    /// `thawcopper_convert_with`, with that word.
+    ConvertWith(u32),
+}
+
+/// The bits of the word that have no name.
+const NAMELESS: u32 = !(raw::ARROW | raw::ASYNC_TO_GENERATOR | raw::ASYNC_GENERATORS | raw::TABLET);
+
+impl Entry {
+    /// The print room's entries by turns: the one with switches, and the one with options, with and without bits that
+    /// have no name.
+    fn print_room(switches: Switches, turn: usize) -> Entry {
+        let word = Options::new(switches).bits();
+        match turn % 4 {
+            0 | 2 => Entry::Convert(switches),
+            1 => Entry::ConvertWith(word),
+            _ => Entry::ConvertWith(word | NAMELESS),
+        }
+    }
+
+    /// The tablet's entry, by turns with and without such bits.
+    fn tablet(switches: Switches, turn: usize) -> Entry {
+        let word = Options::new(switches).tablet(true).bits();
+        Entry::ConvertWith(if turn % 2 == 0 { word } else { word | NAMELESS })
+    }
+
+    /// What the reference is told.
+    fn options(self) -> reference::Options {
+        match self {
+            Entry::Convert(switches) => reference::Options { switches: of_reference(switches), tablet: false },
+            Entry::ConvertWith(word) => reference::Options::of_word(word),
+        }
+    }
+
+    fn call(self, input: &Input, out_rows: &mut [u8], out_bindings: &mut [u8]) -> raw::Answer {
+        let (rows, names, text) = (input.rows(), input.names(), input.text());
+        match self {
+            Entry::Convert(switches) => raw::convert(&switches, rows, names, text, out_rows, out_bindings),
+            Entry::ConvertWith(word) => raw::convert_with(word, rows, names, text, out_rows, out_bindings),
+        }
     }
 }
 
@@ -91,10 +138,10 @@ impl Lent {
     }
 }
 
-/// Compares calls, and counts them.
-pub struct Comparer {
-    rows: Lent,
-    bindings: Lent,
+/// What was compared.
+#[derive(Default)]
+pub struct Tally {
+    pub tables: u64,
     pub calls: u64,
     /// By refusal number; 0 for acceptances.
     pub answers: [u64; 12],
@@ -102,6 +149,45 @@ pub struct Comparer {
     pub with_bindings: u64,
     /// Results whose origins were compared.
     pub origins: u64,
+    /// Calls as a tablet; how many were accepted, and refused by 1 or 3 where the print room does not answer the same.
+    pub tablet_calls: u64,
+    pub tablet_accepted: u64,
+    pub tablet_refused: u64,
+}
+
+impl Tally {
+    pub fn add(&mut self, more: &Tally) {
+        self.tables += more.tables;
+        self.calls += more.calls;
+        for (sum, n) in self.answers.iter_mut().zip(more.answers) {
+            *sum += n;
+        }
+        self.with_bindings += more.with_bindings;
+        self.origins += more.origins;
+        self.tablet_calls += more.tablet_calls;
+        self.tablet_accepted += more.tablet_accepted;
+        self.tablet_refused += more.tablet_refused;
+    }
+}
+
+/// What a caller lends, and the four numbers of its last call.
+struct Caller {
+    rows: Lent,
+    bindings: Lent,
+    told: [u32; 4],
+}
+
+impl Caller {
+    fn new() -> Caller {
+        Caller { rows: Lent::new(), bindings: Lent::new(), told: [0; 4] }
+    }
+}
+
+/// Compares calls, and counts them.
+pub struct Comparer {
+    print_room: Caller,
+    tablet: Caller,
+    pub tally: Tally,
 }
 
 /// How much is lent, in bytes.
@@ -109,6 +195,14 @@ pub struct Comparer {
 pub struct Room {
     pub rows: usize,
     pub bindings: usize,
+}
+
+/// Which settings of a table are called as a tablet too.
+#[derive(Clone, Copy, PartialEq)]
+pub enum Tablet {
+    Each,
+    /// One of eight, the next for each table.
+    ByTurns,
 }
 
 /// Which rooms are tried.
@@ -154,26 +248,25 @@ impl Input {
 
 impl Comparer {
     pub fn new() -> Comparer {
-        let (rows, bindings) = (Lent::new(), Lent::new());
-        Comparer { rows, bindings, calls: 0, answers: [0; 12], with_bindings: 0, origins: 0 }
+        Comparer::after(0)
+    }
+
+    /// As if that many tables had been compared before, which is what turns go by.
+    pub fn after(tables: u64) -> Comparer {
+        let tally = Tally { tables, ..Tally::default() };
+        Comparer { print_room: Caller::new(), tablet: Caller::new(), tally }
     }
 
     /// One call on each side, with that room.
-    pub fn one(&mut self, switches: Switches, input: &Input, room: Room) -> Result<(), Difference> {
-        let wanted = reference::convert(
-            of_reference(switches),
-            input.rows(),
-            input.names(),
-            input.text(),
-            room.rows,
-            room.bindings,
-        );
-        self.against(switches, input, room, &wanted)
+    pub fn one(&mut self, entry: Entry, input: &Input, room: Room) -> Result<(), Difference> {
+        let wanted =
+            reference::convert(entry.options(), input.rows(), input.names(), input.text(), room.rows, room.bindings);
+        self.against(entry, input, room, &wanted)
     }
 
     fn against(
         &mut self,
-        switches: Switches,
+        entry: Entry,
         input: &Input,
         room: Room,
         wanted: &Result<reference::Result01, reference::Refused>,
@@ -182,21 +275,20 @@ impl Comparer {
             Ok(r) => ([0, 0, r.rows.len() as u32, r.bindings.len() as u32], bytes(&r.rows, 0), bytes(&r.bindings, 0)),
             Err(r) => ([r.number, r.place, 0, 0], Vec::new(), Vec::new()),
         };
-        let out_rows = self.rows.lend(room.rows);
-        let out_bindings = self.bindings.lend(room.bindings);
-        let answer = raw::convert(&switches, input.rows(), input.names(), input.text(), out_rows, out_bindings);
-        self.calls += 1;
-        self.answers[numbers[0] as usize] += 1;
-        self.with_bindings += u64::from(numbers[3] != 0);
-        let got = [answer.refusal, answer.place, answer.rows, answer.bindings];
-        let told = |what: String| Err(format!("{:?} {:?}: {}", switches, room, what));
-        if got != numbers {
-            return told(format!("the reference answers {:?}, the library {:?}", numbers, got));
+        let caller = if entry.options().tablet { &mut self.tablet } else { &mut self.print_room };
+        let answer = entry.call(input, caller.rows.lend(room.rows), caller.bindings.lend(room.bindings));
+        caller.told = [answer.refusal, answer.place, answer.rows, answer.bindings];
+        self.tally.calls += 1;
+        self.tally.answers[numbers[0] as usize] += 1;
+        self.tally.with_bindings += u64::from(numbers[3] != 0);
+        let told = |what: String| Err(format!("{:?} {:?}: {}", entry, room, what));
+        if caller.told != numbers {
+            return told(format!("the reference answers {:?}, the library {:?}", numbers, caller.told));
         }
-        if !self.rows.holds(&rows) {
+        if !caller.rows.holds(&rows) {
             return told(format!("answer {:?}, but the rows lent differ", numbers));
         }
-        if !self.bindings.holds(&bindings) {
+        if !caller.bindings.holds(&bindings) {
             return told(format!("answer {:?}, but the bindings lent differ", numbers));
         }
         if !input.untouched() {
@@ -205,11 +297,32 @@ impl Comparer {
         Ok(())
     }
 
+    /// The call that the print room made last, once more as a tablet. Where it is not refused by 1 or 3, it gives the
+    /// print room's numbers and bytes.
+    fn as_tablet(&mut self, entry: Entry, input: &Input, room: Room) -> Result<(), Difference> {
+        self.one(entry, input, room)?;
+        let Comparer { print_room, tablet, tally } = self;
+        let same = tablet.told == print_room.told
+            && tablet.rows.lent() == print_room.rows.lent()
+            && tablet.bindings.lent() == print_room.bindings.lent();
+        let own = matches!(tablet.told[0], 1 | 3);
+        tally.tablet_calls += 1;
+        tally.tablet_accepted += u64::from(tablet.told[0] == 0);
+        tally.tablet_refused += u64::from(own && !same);
+        if own || same {
+            return Ok(());
+        }
+        Err(format!(
+            "{:?} {:?}: the print room has answer {:?}, the tablet {:?}, with other bytes lent",
+            entry, room, print_room.told, tablet.told
+        ))
+    }
+
     /// Where the rows of the result come from that was written last, in just the room that it needs.
     fn origins(&mut self, switches: Switches, input: &Input, wanted: &[Option<u32>]) -> Result<(), Difference> {
-        let rows = Row::list(self.rows.lent());
-        let converted = Converted { rows, bindings: Binding::list(self.bindings.lent()) };
-        self.origins += 1;
+        let rows = Row::list(self.print_room.rows.lent());
+        let converted = Converted { rows, bindings: Binding::list(self.print_room.bindings.lent()) };
+        self.tally.origins += 1;
         let told = |what: String| Err(format!("{:?}: {}", switches, what));
         let got = match catch_unwind(AssertUnwindSafe(|| converted.origins(&input.table))) {
             Ok(got) => got,
@@ -228,52 +341,79 @@ impl Comparer {
         }
     }
 
-    /// A table in all eight settings.
-    pub fn table(&mut self, table: &Table, rooms: Rooms) -> Result<(), Difference> {
+    /// A table in these settings.
+    pub fn table(
+        &mut self,
+        table: &Table,
+        settings: &[Switches],
+        rooms: Rooms,
+        tablet: Tablet,
+    ) -> Result<(), Difference> {
         let input = Input::of(table);
-        for (turn, switches) in EIGHT.iter().enumerate() {
-            self.setting(*switches, &input, rooms, turn)?;
+        self.tally.tables += 1;
+        for (turn, switches) in settings.iter().enumerate() {
+            let too = tablet == Tablet::Each || self.tally.tables % 8 == turn as u64;
+            self.setting(*switches, &input, rooms, turn, too)?;
         }
         Ok(())
     }
 
-    /// A table in one setting: what the reference answers where there is room for all, then less and more room.
-    pub fn setting(&mut self, switches: Switches, input: &Input, rooms: Rooms, turn: usize) -> Result<(), Difference> {
-        let found = reference::convert_with_origins(of_reference(switches), input.rows(), input.names(), input.text());
+    /// A table in one setting: what the reference answers where there is room for all, then less and more room; and as
+    /// a tablet too, or not.
+    pub fn setting(
+        &mut self,
+        switches: Switches,
+        input: &Input,
+        rooms: Rooms,
+        turn: usize,
+        tablet: bool,
+    ) -> Result<(), Difference> {
+        // The entries change from call to call, and from table to table.
+        let turns = turn + self.tally.tables as usize;
+        let entry = |call: usize| Entry::print_room(switches, turns + call);
+        let options = entry(0).options();
+        let found = reference::convert_with_origins(options, input.rows(), input.names(), input.text());
         let (wanted, origins) = match found {
             Ok((result, origins)) => (Ok(result), origins),
             Err(refused) => (Err(refused), Vec::new()),
         };
         let plenty = Room { rows: input.rows().len() * 2 + 64, bindings: input.rows().len() / 4 + 64 };
+        let none = Room { rows: 0, bindings: 0 };
         let exact = match &wanted {
             Ok(r) => Room { rows: r.rows.len() * 16, bindings: r.bindings.len() * 12 },
-            Err(_) => {
-                self.against(switches, input, Room { rows: 0, bindings: 0 }, &wanted)?;
-                if rooms == Rooms::All {
-                    self.against(switches, input, plenty, &wanted)?;
-                }
-                return Ok(());
-            }
+            Err(_) => none,
         };
-        self.against(switches, input, exact, &wanted)?;
-        self.origins(switches, input, &origins)?;
+        self.against(entry(0), input, exact, &wanted)?;
+        if wanted.is_ok() {
+            self.origins(switches, input, &origins)?;
+        }
+        if tablet {
+            self.as_tablet(Entry::tablet(switches, turns), input, exact)?;
+        }
+        if wanted.is_err() {
+            return if rooms == Rooms::All { self.against(entry(1), input, plenty, &wanted) } else { Ok(()) };
+        }
         let short_rows = Room { rows: exact.rows - 1, ..exact };
         let short_bindings = Room { bindings: exact.bindings.saturating_sub(1), ..exact };
         // From this much room on the library need not count the rows first.
         let ample = Room { rows: 8 * input.rows().len() + 11 * 16 * (exact.bindings / 12), ..exact };
         if rooms == Rooms::Some {
             let short = if turn % 2 == 0 || exact.bindings == 0 { short_rows } else { short_bindings };
-            self.one(switches, input, short)?;
-            return if turn % 4 == 3 { self.against(switches, input, ample, &wanted) } else { Ok(()) };
+            self.one(entry(1), input, short)?;
+            return if turn % 4 == 3 { self.against(entry(2), input, ample, &wanted) } else { Ok(()) };
         }
         let spare = Room { rows: exact.rows + 15, bindings: exact.bindings + 11 };
         let more = Room { rows: exact.rows + 16, bindings: exact.bindings + 12 };
-        let none = Room { rows: 0, bindings: 0 };
         let fewer = Room { rows: exact.rows.saturating_sub(160), bindings: exact.bindings + 120 };
         let nearly = Room { rows: ample.rows - 1, ..exact };
         let ample_short = Room { rows: ample.rows, ..short_bindings };
-        for room in [short_rows, short_bindings, spare, more, none, fewer, plenty, ample, nearly, ample_short] {
-            self.one(switches, input, room)?;
+        let further = [short_rows, short_bindings, spare, more, none, fewer, plenty, ample, nearly, ample_short];
+        for (call, room) in further.into_iter().enumerate() {
+            self.one(entry(call + 1), input, room)?;
+            // As a tablet in one of these rooms, by turns.
+            if tablet && turns % further.len() == call {
+                self.as_tablet(Entry::tablet(switches, turns), input, room)?;
+            }
         }
         Ok(())
     }
@@ -282,13 +422,12 @@ impl Comparer {
 /// One call of base text on each side.
 pub struct BaseTexts {
     out: Lent,
-    pub calls: u64,
-    pub answers: [u64; 12],
+    pub tally: Tally,
 }
 
 impl BaseTexts {
     pub fn new() -> BaseTexts {
-        BaseTexts { out: Lent::new(), calls: 0, answers: [0; 12] }
+        BaseTexts { out: Lent::new(), tally: Tally::default() }
     }
 
     pub fn one(
@@ -304,8 +443,8 @@ impl BaseTexts {
             Err(r) => ([r.number, r.place, 0], Vec::new()),
         };
         let answer = raw::base_text(number, bindings, names, text, self.out.lend(room));
-        self.calls += 1;
-        self.answers[numbers[0] as usize] += 1;
+        self.tally.calls += 1;
+        self.tally.answers[numbers[0] as usize] += 1;
         let got = [answer.refusal, answer.place, answer.bytes];
         if got != numbers {
             return Err(format!("base text: the reference answers {:?}, the library {:?}", numbers, got));

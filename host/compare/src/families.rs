@@ -1,10 +1,11 @@
 //! The families of tables that are compared.
 
 use crate::all::All;
-use crate::call::{BaseTexts, Comparer, Difference, Input, Rooms, Table, EIGHT};
+use crate::call::{BaseTexts, Comparer, Difference, Input, Rooms, Table, Tablet, Tally, EIGHT};
 use crate::grammar::{laid, Head, Place, Tree};
 use crate::random::{names, table, Random, Style};
-use thawcopper_reference::{MOST_NAMES, MOST_RECORDS, MOST_ROWS, MOST_TEXT};
+use thawcopper::Switches;
+use thawcopper_reference::{Limits, MOST_NAMES, MOST_RECORDS, MOST_TEXT};
 
 /// A difference, and the table that has it.
 pub struct Found {
@@ -12,45 +13,31 @@ pub struct Found {
     pub difference: Difference,
 }
 
-/// What was compared.
-pub struct Tally {
-    pub tables: u64,
-    pub calls: u64,
-    pub answers: [u64; 12],
-    pub with_bindings: u64,
-    pub origins: u64,
-}
-
 struct Run {
     comparer: Comparer,
-    tables: u64,
 }
 
 impl Run {
     fn new() -> Run {
-        Run { comparer: Comparer::new(), tables: 0 }
+        Run { comparer: Comparer::new() }
     }
 
-    fn eight(&mut self, table: &Table, rooms: Rooms) -> Result<(), Found> {
-        self.tables += 1;
-        self.comparer.table(table, rooms).map_err(|difference| Found { table: Some(table.clone()), difference })
+    fn settings(&mut self, table: &Table, list: &[Switches], rooms: Rooms, tablet: Tablet) -> Result<(), Found> {
+        let compared = self.comparer.table(table, list, rooms, tablet);
+        compared.map_err(|difference| Found { table: Some(table.clone()), difference })
+    }
+
+    fn eight(&mut self, table: &Table, rooms: Rooms, tablet: Tablet) -> Result<(), Found> {
+        self.settings(table, &EIGHT, rooms, tablet)
     }
 
     /// In two settings: what is refused before the switches matter.
     fn two(&mut self, table: &Table) -> Result<(), Found> {
-        self.tables += 1;
-        let input = Input::of(table);
-        for (turn, switches) in [EIGHT[0], EIGHT[4]].iter().enumerate() {
-            self.comparer
-                .setting(*switches, &input, Rooms::Some, turn)
-                .map_err(|difference| Found { table: Some(table.clone()), difference })?;
-        }
-        Ok(())
+        self.settings(table, &[EIGHT[0], EIGHT[4]], Rooms::Some, Tablet::ByTurns)
     }
 
     fn tally(self) -> Tally {
-        let Comparer { calls, answers, with_bindings, origins, .. } = self.comparer;
-        Tally { tables: self.tables, calls, answers, with_bindings, origins }
+        self.comparer.tally
     }
 }
 
@@ -181,7 +168,7 @@ fn alphabets(more: usize) -> Vec<Alphabet> {
     ]
 }
 
-/// All tables over the alphabets, in all eight settings.
+/// All tables over the alphabets, in all eight settings, one of them as a tablet too.
 pub fn all_tables(more: usize) -> Result<Tally, Found> {
     let mut run = Run::new();
     for alphabet in alphabets(more) {
@@ -189,7 +176,7 @@ pub fn all_tables(more: usize) -> Result<Tally, Found> {
         let mut count = 0;
         for size in 1..=alphabet.most {
             for tree in all.trees(Place::Program, size).iter() {
-                run.eight(&of_tree(tree), Rooms::Some)?;
+                run.eight(&of_tree(tree), Rooms::Some, Tablet::ByTurns)?;
                 count += 1;
             }
         }
@@ -301,7 +288,7 @@ pub fn all_expressions(more: usize) -> Result<Tally, Found> {
         for expression in all.trees(Place::Expression, size).iter() {
             count += 1;
             for (_, context) in &contexts {
-                run.eight(&of_tree(&context(expression.clone())), Rooms::Some)?;
+                run.eight(&of_tree(&context(expression.clone())), Rooms::Some, Tablet::ByTurns)?;
             }
         }
     }
@@ -349,7 +336,7 @@ pub fn all_constructors(more: usize) -> Result<Tally, Found> {
                 // The body's statements, and `() => this` behind them.
                 let inside = [&body[1..], &reads_this()[..]].concat();
                 let constructor = method_of(METHOD, 4, &[], &[inside]);
-                run.eight(&of_tree(&constructor), Rooms::Some)?;
+                run.eight(&of_tree(&constructor), Rooms::Some, Tablet::ByTurns)?;
             }
         }
         println!(
@@ -496,13 +483,13 @@ pub fn all_ends(more: usize) -> Result<Tally, Found> {
     Ok(run.tally())
 }
 
-/// Random tables, by the seed.
+/// Random tables, by the seed; as a tablet too.
 pub fn random_tables(seed: u64, tables: u64, rows: usize, rooms: Rooms) -> Result<Tally, Found> {
     let mut run = Run::new();
     let mut random = Random::new(seed);
     for _ in 0..tables {
         let style = a_style(&mut random, rows);
-        run.eight(&table(&mut random, style), rooms)?;
+        run.eight(&table(&mut random, style), rooms, Tablet::Each)?;
     }
     Ok(run.tally())
 }
@@ -517,7 +504,7 @@ fn a_style(random: &mut Random, rows: usize) -> Style {
     }
 }
 
-/// Damaged copies of random tables.
+/// Damaged copies of random tables; as a tablet too.
 pub fn damaged_tables(seed: u64, tables: u64, rows: usize) -> Result<Tally, Found> {
     let mut run = Run::new();
     let mut random = Random::new(seed);
@@ -529,7 +516,7 @@ pub fn damaged_tables(seed: u64, tables: u64, rows: usize) -> Result<Tally, Foun
             for _ in 0..1 + random.below(2) {
                 damage(&mut random, &mut copy);
             }
-            run.eight(&copy, Rooms::Some)?;
+            run.eight(&copy, Rooms::Some, Tablet::Each)?;
         }
     }
     Ok(run.tally())
@@ -612,49 +599,37 @@ pub fn all_utf8(more: usize) -> Result<Tally, Found> {
     Ok(run.tally())
 }
 
-/// Tables on both sides of each limit.
+/// Tables on both sides of each limit, of the print room's and of a tablet's, by both callers.
 pub fn limits(seed: u64, rounds: usize) -> Result<Tally, Found> {
     let mut run = Run::new();
     let mut random = Random::new(seed);
     for round in 0..rounds {
-        // Rows: a random table with rows without work up to the limit.
-        for count in [MOST_ROWS - 1, MOST_ROWS, MOST_ROWS + 1] {
+        for limits in [Limits::of(false), Limits::of(true)] {
+            let deepest = limits.depth as usize;
+            // Rows: a random table with rows without work up to the limit; more of them where they are small.
             let style = Style {
-                rows: MOST_ROWS,
-                deepest: 100,
+                rows: limits.rows,
+                deepest: deepest * 3 / 4,
                 careless: 1_000_000,
                 keen: 2 + round % 3,
                 field_arrows: round % 4 == 3,
             };
-            let mut whole = loop {
-                let whole = table(&mut random, style);
-                if whole.rows.len() <= count {
-                    break whole;
+            for _ in 0..1 + 4_096 / limits.rows {
+                for count in limits.rows - 1..=limits.rows + 1 {
+                    run.eight(&of_count(&mut random, style, count), Rooms::Some, Tablet::Each)?;
                 }
-                // Too many: drop statements from the end.
-                let mut end = 1;
-                while (whole.rows[end][3] as usize) <= count && (whole.rows[end][3] as usize) < whole.rows.len() {
-                    end = whole.rows[end][3] as usize;
-                }
-                let mut fewer = whole;
-                fewer.rows.truncate(end);
-                fewer.rows[0][3] = end as u32;
-                break fewer;
-            };
-            while whole.rows.len() < count {
-                let end = whole.rows.len() as u32 + 1;
-                whole.rows.push([4, 0, 0, end]);
             }
-            whole.rows[0][3] = count as u32;
-            run.eight(&whole, Rooms::Some)?;
-        }
-        // Depth: chains that end on each side of the limit.
-        for depth in 124..=130 {
-            run.eight(&chain(&mut random, depth), Rooms::All)?;
+            // Depth: chains that end on each side of the limit.
+            for depth in deepest - 4..=deepest + 2 {
+                run.eight(&chain(&mut random, depth), Rooms::All, Tablet::Each)?;
+            }
         }
     }
+    for table in around_the_tablets_limits() {
+        run.eight(&table, Rooms::All, Tablet::Each)?;
+    }
     // No rows.
-    run.eight(&of_rows(Vec::new()), Rooms::All)?;
+    run.eight(&of_rows(Vec::new()), Rooms::All, Tablet::Each)?;
     // Names and text.
     for (count, length) in
         [(MOST_NAMES - 1, 15), (MOST_NAMES, 15), (MOST_NAMES + 1, 15), (255, 255), (256, 255), (257, 255), (256, 256)]
@@ -668,25 +643,45 @@ pub fn limits(seed: u64, rounds: usize) -> Result<Tally, Found> {
             whole.text = (0..count * length).map(|n| b'a' + (n % 26) as u8).collect();
             whole.names = (0..count).map(|n| [(n * length) as u32, length as u32]).collect();
             whole.text.resize((whole.text.len() / MOST_TEXT.max(1)) * MOST_TEXT.max(1) + MOST_TEXT - 2 + more, b'z');
-            run.eight(&whole, Rooms::Some)?;
+            run.eight(&whole, Rooms::Some, Tablet::Each)?;
             whole.text.truncate(MOST_TEXT - 2 + more);
-            run.eight(&whole, Rooms::Some)?;
+            run.eight(&whole, Rooms::Some, Tablet::Each)?;
             let end = (whole.text.len() as u32).saturating_sub(255);
             for start in end - 1..end + 2 {
                 whole.names = vec![[start, 255], [start, 254], [u32::MAX, 2], [2, u32::MAX]];
-                run.eight(&whole, Rooms::Some)?;
+                run.eight(&whole, Rooms::Some, Tablet::Each)?;
                 whole.names.truncate(2);
-                run.eight(&whole, Rooms::Some)?;
+                run.eight(&whole, Rooms::Some, Tablet::Each)?;
                 whole.names.truncate(1);
-                run.eight(&whole, Rooms::Some)?;
+                run.eight(&whole, Rooms::Some, Tablet::Each)?;
             }
         }
     }
     // Frames, captures and accessors without number: arrows in functions, accessors in one frame.
     for shape in 0..8 {
-        run.eight(&crowded(shape), Rooms::Some)?;
+        for limits in [Limits::of(false), Limits::of(true)] {
+            run.eight(&crowded(shape, limits.rows), Rooms::Some, Tablet::Each)?;
+        }
     }
     Ok(run.tally())
+}
+
+/// A random table of just that many rows: statements are dropped from its end, and Returns put behind it.
+fn of_count(random: &mut Random, style: Style, count: usize) -> Table {
+    let mut whole = table(random, style);
+    if whole.rows.len() > count {
+        let mut end = 1;
+        while (whole.rows[end][3] as usize) <= count {
+            end = whole.rows[end][3] as usize;
+        }
+        whole.rows.truncate(end);
+    }
+    while whole.rows.len() < count {
+        let end = whole.rows.len() as u32 + 1;
+        whole.rows.push([4, 0, 0, end]);
+    }
+    whole.rows[0][3] = count as u32;
+    whole
 }
 
 /// A path down to that depth, through rows that the rules look at.
@@ -714,9 +709,10 @@ fn chain(random: &mut Random, depth: usize) -> Table {
     of_tree(&tree(PROGRAM, &[statement(inner)]))
 }
 
-fn crowded(shape: usize) -> Table {
+/// Frames, captures and accessors, as many as that number of rows has place for.
+fn crowded(shape: usize, rows: usize) -> Table {
     let reads = statement(arrow_of(ARROW, leaf(THIS)));
-    let most = MOST_ROWS - 8;
+    let most = rows - 8;
     let many = |one: &Tree| -> Tree { one.iter().copied().cycle().take(most / one.len() * one.len()).collect() };
     let spelled = |name: u32| tree([12, 0, name], &[leaf(SUPER)]);
     match shape {
@@ -733,7 +729,7 @@ fn crowded(shape: usize) -> Table {
         }
         // Accessors: distinct properties in one frame, and one computed accessor in each of many frames.
         3 => {
-            let count = 600;
+            let count = 600.min(most as u32 / 6);
             let statements: Vec<Tree> = (1..=count)
                 .map(|n| {
                     if n % 3 == 0 {
@@ -756,7 +752,7 @@ fn crowded(shape: usize) -> Table {
         // Properties whose bytes give one number by the library's hash, each read twice; and a few properties in each of
         // many frames.
         5 => {
-            let count = 512;
+            let count = 512.min(most as u32 / 8);
             let statements: Vec<Tree> =
                 (1..=count).chain(1..=count).map(|n| statement(tree(CALL, &[spelled(n)]))).collect();
             let mut whole = of_tree(&method_of(METHOD, 1, &[], &statements));
@@ -853,7 +849,7 @@ pub fn base_texts(seed: u64, calls: u64) -> Result<Tally, Found> {
         let room = random.below(40);
         base.one(number, &bindings, input.names(), input.text(), room).map_err(told)?;
     }
-    Ok(Tally { tables: 0, calls: base.calls, answers: base.answers, with_bindings: 0, origins: 0 })
+    Ok(base.tally)
 }
 
 /// A damaged copy of a table.
@@ -893,4 +889,35 @@ pub fn constructors() -> Vec<Table> {
         vec![tree(RETURN, &[tree(SEQUENCE, &[tree(CALL, &[leaf(SUPER)]), arrow_of(ARROW, leaf(THIS))])])],
     ];
     bodies.iter().map(|body| of_tree(&method_of(METHOD, 4, &[], body))).collect()
+}
+
+/// Tables on both sides of a tablet's limits: of rows, of depth, and of both; and beyond them with something else that
+/// is refused. With arrows on, the results of the largest have more rows than a tablet takes.
+pub fn around_the_tablets_limits() -> Vec<Table> {
+    let Limits { rows, depth } = Limits::of(true);
+    let depth = depth as usize;
+    // () => opaque(opaque(.. this)), down to that depth: the statement has depth 1 and the arrow 2.
+    let deep = |depth: usize| {
+        let nested = (3..depth).fold(leaf(THIS), |inner, _| tree(OPAQUE, &[inner]));
+        statement(arrow_of(ARROW, nested))
+    };
+    // With Returns before and behind it, so many rows in all.
+    let laid_out = |rows: usize, depth: usize| {
+        let middle = deep(depth);
+        let behind = rows - 2 - middle.len();
+        let whole = of_tree(&tree(PROGRAM, &[leaf(RETURN), middle, leaf(RETURN).repeat(behind)]));
+        Table { names: Vec::new(), text: Vec::new(), ..whole }
+    };
+    let few = depth + 10;
+    let wide = [rows - 1, rows, rows + 1].map(|rows| laid_out(rows, 3));
+    let deep = [depth - 1, depth, depth + 1].map(|depth| laid_out(few, depth));
+    let both = [(rows, depth), (rows, depth + 1), (rows + 1, depth + 1)].map(|(rows, depth)| laid_out(rows, depth));
+    // A name outside of the text, which comes between 1 and 3.
+    let named = [laid_out(rows + 1, 3), laid_out(few, depth + 1)].map(|table| Table { names: vec![[0, 1]], ..table });
+    // A bad row behind the one that is too deep, and a row of a result before it.
+    let mut bad = laid_out(few, depth + 1);
+    bad.rows[few - 1][1] = 1;
+    let mut made = laid_out(few, depth + 1);
+    made.rows[5][..2].copy_from_slice(&[12, 1]);
+    wide.into_iter().chain(deep).chain(both).chain(named).chain([bad, made]).collect()
 }

@@ -1,5 +1,6 @@
-//! Compares the library, over its C boundary, with the reference: every number returned and every byte lent; and where the
-//! rows of each result come from, as the package finds it.
+//! Compares the library, over its C boundary, with the reference: every number returned and every byte lent, as the
+//! print room and as a tablet; what a tablet accepts with what the print room gets; and where the rows of each result
+//! come from, as the package finds it.
 //!
 //!   compare                     the fixed seed's run, which the gate makes
 //!   compare long SEED MINUTES   random tables from another seed, for about so many minutes
@@ -20,18 +21,12 @@ mod stored;
 use std::process::exit;
 use std::time::{Duration, Instant};
 
-use call::Rooms;
+use call::{Rooms, Tally};
 use families::*;
 
 const SEED: u64 = 20_261_116;
 
-struct Total {
-    tables: u64,
-    calls: u64,
-    answers: [u64; 12],
-    with_bindings: u64,
-    origins: u64,
-}
+struct Total(Tally);
 
 impl Total {
     fn add(&mut self, what: &str, run: impl FnOnce() -> Result<Tally, Found>) {
@@ -40,13 +35,7 @@ impl Total {
             Ok(tally) => {
                 let seconds = start.elapsed().as_secs_f64();
                 println!("  {}: {} tables, {} calls, {:.1} s", what, tally.tables, tally.calls, seconds);
-                self.tables += tally.tables;
-                self.calls += tally.calls;
-                self.with_bindings += tally.with_bindings;
-                self.origins += tally.origins;
-                for (sum, n) in self.answers.iter_mut().zip(tally.answers) {
-                    *sum += n;
-                }
+                self.0.add(&tally);
             }
             Err(found) => {
                 println!("{}: DIFFERENCE: {}", what, found.difference);
@@ -59,12 +48,17 @@ impl Total {
     }
 
     fn tell(&self) {
+        let Tally { tables, calls, answers, with_bindings, origins, .. } = self.0;
         println!(
             "{} tables and {} calls compared, 0 differ; {} accepted ({} with bindings)",
-            self.tables, self.calls, self.answers[0], self.with_bindings
+            tables, calls, answers[0], with_bindings
         );
-        println!("origins of the rows of {} results compared, 0 differ", self.origins);
-        let refused: Vec<String> = (1..12).map(|n| format!("{}: {}", n, self.answers[n])).collect();
+        println!(
+            "{} of the calls as a tablet: {} accepted, with the print room's bytes; {} refused by a limit of its own",
+            self.0.tablet_calls, self.0.tablet_accepted, self.0.tablet_refused
+        );
+        println!("origins of the rows of {} results compared, 0 differ", origins);
+        let refused: Vec<String> = (1..12).map(|n| format!("{}: {}", n, answers[n])).collect();
         println!("refused by number: {}", refused.join(", "));
     }
 }
@@ -77,6 +71,7 @@ fn fixed(total: &mut Total) {
     total.add("damaged copies", || damaged_tables(SEED + 1, 8_000, 40));
     total.add("both sides of each limit", || limits(SEED + 2, 4));
     total.add("random, some 1,000 rows", || random_tables(SEED + 3, 200, 1_000, Rooms::Some));
+    total.add("random, some 400 rows", || random_tables(SEED + 6, 200, 400, Rooms::Some));
     total.add("random, some 50 rows", || random_tables(SEED + 4, 6_000, 50, Rooms::All));
     total.add("random, some 10 rows", || random_tables(SEED + 5, 12_000, 10, Rooms::All));
     total.add("all constructors", || all_constructors(0));
@@ -102,6 +97,7 @@ fn long(total: &mut Total, seed: u64, minutes: u64) {
         total.add("random, some 10 rows", || random_tables(seed, 5_000, 10, Rooms::All));
         total.add("random, some 50 rows", || random_tables(seed + 1, 5_000, 50, Rooms::All));
         total.add("random, some 1,000 rows", || random_tables(seed + 2, 200, 1_000, Rooms::Some));
+        total.add("random, some 400 rows", || random_tables(seed + 7, 500, 400, Rooms::Some));
         total.add("random, some 6,000 rows", || random_tables(seed + 3, 20, 6_000, Rooms::Some));
         total.add("damaged copies", || damaged_tables(seed + 4, 5_000, 40));
         total.add("both sides of each limit", || limits(seed + 5, 4));
@@ -117,7 +113,7 @@ fn usage() -> ! {
 fn main() {
     let arguments: Vec<String> = std::env::args().skip(1).collect();
     let arguments: Vec<&str> = arguments.iter().map(String::as_str).collect();
-    let mut total = Total { tables: 0, calls: 0, answers: [0; 12], with_bindings: 0, origins: 0 };
+    let mut total = Total(Tally::default());
     match arguments[..] {
         [] => fixed(&mut total),
         ["long", seed, minutes] => match (seed.parse(), minutes.parse()) {

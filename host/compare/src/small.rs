@@ -6,25 +6,35 @@ use thawcopper::Switches;
 
 use crate::call::{Comparer, Difference, Input, Rooms, Table, EIGHT};
 
-/// The setting and the rooms in which a table differs.
+/// The setting, the rooms and the turns in which a table differs.
 #[derive(Clone, Copy)]
 struct Where {
     switches: Switches,
     rooms: Rooms,
     turn: usize,
+    /// How many tables came before.
+    before: u64,
+    /// Whether it is called as a tablet too.
+    tablet: bool,
 }
 
 fn differs(table: &Table, at: Where) -> Option<Difference> {
-    Comparer::new().setting(at.switches, &Input::of(table), at.rooms, at.turn).err()
+    Comparer::after(at.before).setting(at.switches, &Input::of(table), at.rooms, at.turn, at.tablet).err()
 }
 
-/// The first setting that shows the difference, with as few rooms as do.
+/// The first setting that shows the difference, with as few rooms as do, and without a tablet where that does.
 fn found(table: &Table) -> Option<Where> {
-    for (rooms, turn) in [(Rooms::Some, 0), (Rooms::Some, 1), (Rooms::All, 0)] {
-        for switches in EIGHT {
-            let at = Where { switches, rooms, turn };
-            if differs(table, at).is_some() {
-                return Some(at);
+    for (rooms, turns, befores) in [(Rooms::Some, 4, 4), (Rooms::All, 1, 20)] {
+        for tablet in [false, true] {
+            for turn in 0..turns {
+                for before in 0..befores {
+                    for switches in EIGHT {
+                        let at = Where { switches, rooms, turn, before, tablet };
+                        if differs(table, at).is_some() {
+                            return Some(at);
+                        }
+                    }
+                }
             }
         }
     }

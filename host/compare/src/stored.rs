@@ -5,11 +5,11 @@ use std::fmt::Write as _;
 use std::fs;
 use std::process::exit;
 
-use thawcopper::Switches;
+use thawcopper::{Options, Switches};
 use thawcopper_reference as reference;
 
-use crate::call::{of_reference, Comparer, Input, Room, Table, EIGHT};
-use crate::families::{constructors, damaged_copy, worked};
+use crate::call::{Comparer, Entry, Input, Room, Table, EIGHT};
+use crate::families::{around_the_tablets_limits, constructors, damaged_copy, worked};
 use crate::random::{table, Random, Style};
 
 /// What a conversion answers, in numbers and words.
@@ -20,10 +20,10 @@ struct Answer {
     bindings: Vec<[u32; 3]>,
 }
 
-fn answer(switches: Switches, input: &Input, room: Room) -> Answer {
-    let result =
-        reference::convert(of_reference(switches), input.rows(), input.names(), input.text(), room.rows, room.bindings);
-    match result {
+/// The reference's, with that word for options.
+fn answer(word: u32, input: &Input, room: Room) -> Answer {
+    let options = reference::Options::of_word(word);
+    match reference::convert(options, input.rows(), input.names(), input.text(), room.rows, room.bindings) {
         Ok(r) => {
             Answer { numbers: [0, 0, r.rows.len() as u32, r.bindings.len() as u32], rows: r.rows, bindings: r.bindings }
         }
@@ -97,15 +97,10 @@ pub fn check(file: &str) {
     let mut comparer = Comparer::new();
     while numbers.at < numbers.list.len() {
         count += 1;
-        let [own, arrow, async_to_generator, async_generator] = numbers.some();
+        let [own, word] = numbers.some();
         if own != count {
             stop(&format!("conversion {} has number {}", count, own));
         }
-        let switches = Switches {
-            arrow: arrow != 0,
-            async_to_generator: async_to_generator != 0,
-            async_generator_functions: async_generator != 0,
-        };
         let [rows, bindings] = numbers.some();
         let room = Room { rows: rows as usize, bindings: bindings as usize };
         let rows = numbers.runs(3);
@@ -116,14 +111,18 @@ pub fn check(file: &str) {
         let table = Table { rows, more_rows, names, more_names, text };
         let stored = Answer { numbers: numbers.some(), rows: numbers.runs(3), bindings: numbers.runs(2) };
         let input = Input::of(&table);
-        let wanted = answer(switches, &input, room);
+        let wanted = answer(word, &input, room);
         if wanted != stored {
             differ += 1;
             println!("conversion {}: stored {:?}, the reference {:?}", count, stored.numbers, wanted.numbers);
         }
-        if let Err(difference) = comparer.one(switches, &input, room) {
-            differ += 1;
-            println!("conversion {}: {}", count, difference);
+        // As the print room by the entry with switches too.
+        let switches = EIGHT.into_iter().find(|s| Options::new(*s).bits() == word).map(Entry::Convert);
+        for entry in [Some(Entry::ConvertWith(word)), switches].into_iter().flatten() {
+            if let Err(difference) = comparer.one(entry, &input, room) {
+                differ += 1;
+                println!("conversion {}: {}", count, difference);
+            }
         }
     }
     println!("{} stored conversions, {} differ", count, differ);
@@ -136,11 +135,13 @@ const HEAD: &str = "\
 # Conversions, with the answers of host/reference, an implementation on boxed trees that shares nothing with the code
 # that reads this. Made by `compare sample` (host/compare/src/stored.rs): the worked tables, then random tables, damaged
 # ones among them, from a fixed seed, in settings and with room by turns; one is taken where its answer has something
-# that no earlier one of its mode has: a row under a parent, a refusal of a row, a use of a binding.
+# that no earlier one of its mode has: a row under a parent, a refusal of a row, a use of a binding. Behind them stand
+# tables around a tablet's limits, by both callers; and as a tablet the worked tables, and random ones that are too deep
+# for it.
 #
 # Numbers are decimal, apart by blanks and line ends; '#' starts a comment that ends with its line.
 # A conversion is, in this order:
-#   its own number, from 1; the switches arrow, async, asyncgen
+#   its own number, from 1; the options: 1 arrow, 2 async, 4 asyncgen, 8 tablet
 #   how many bytes are lent for rows, and for bindings
 #   the number of runs of rows; for each run: kind attr name end, times, step
 #   how many zero bytes stand behind the rows
@@ -183,9 +184,10 @@ fn write_runs<const N: usize>(out: &mut String, items: &[[u32; N]], grows: usize
     out.push('\n');
 }
 
-/// What an answer shows: what of it is new decides whether it is taken.
-fn shows(switches: Switches, table: &Table, answer: &Answer, seen: &mut HashSet<[u32; 7]>) -> usize {
-    let mode = match reference::Mode::of(of_reference(switches)) {
+/// What an answer shows, by mode and caller: what of it is new decides whether it is taken.
+fn shows(word: u32, table: &Table, answer: &Answer, seen: &mut HashSet<[u32; 7]>) -> usize {
+    let options = reference::Options::of_word(word);
+    let mode = match reference::Mode::of(options.switches) {
         reference::Mode::Disabled => 0,
         reference::Mode::Enabled => 1,
         reference::Mode::AsyncOnly => 2,
@@ -193,7 +195,7 @@ fn shows(switches: Switches, table: &Table, answer: &Answer, seen: &mut HashSet<
     let mut new = 0;
     let mut see = |what: [u32; 6]| {
         let [a, b, c, d, e, f] = what;
-        new += usize::from(seen.insert([mode, a, b, c, d, e, f]));
+        new += usize::from(seen.insert([mode + 3 * u32::from(options.tablet), a, b, c, d, e, f]));
     };
     let [number, place, ..] = answer.numbers;
     if number != 0 {
@@ -227,17 +229,21 @@ fn shows(switches: Switches, table: &Table, answer: &Answer, seen: &mut HashSet<
     new
 }
 
+/// What the program that replays such a file has place for.
+const MOST_BYTES: usize = 1_048_575;
+const MOST_NUMBERS: usize = 327_680;
+
 /// Writes a sample of the reference's answers.
 pub fn write(file: &str) {
     let mut out = HEAD.to_string();
     let mut random = Random::new(1);
     let mut seen = HashSet::new();
     let mut count = 0;
-    let mut take = |out: &mut String, switches: Switches, table: &Table, turn: usize, least: usize| {
+    let mut take = |out: &mut String, word: u32, table: &Table, turn: usize, least: usize| {
         let input = Input::of(table);
         let plenty = Room { rows: 1 << 18, bindings: 1 << 16 };
-        let whole = answer(switches, &input, plenty);
-        let new = shows(switches, table, &whole, &mut seen);
+        let whole = answer(word, &input, plenty);
+        let new = shows(word, table, &whole, &mut seen);
         if new < least {
             return;
         }
@@ -250,19 +256,9 @@ pub fn write(file: &str) {
             4 => Room { rows: exact.rows + 160, bindings: exact.bindings + 24 },
             _ => exact,
         };
-        let answer = answer(switches, &input, room);
+        let answer = answer(word, &input, room);
         count += 1;
-        let on = |switch: bool| u32::from(switch);
-        let _ = writeln!(
-            out,
-            "\n{} {} {} {}\n{} {}",
-            count,
-            on(switches.arrow),
-            on(switches.async_to_generator),
-            on(switches.async_generator_functions),
-            room.rows,
-            room.bindings
-        );
+        let _ = writeln!(out, "\n{} {}\n{} {}", count, word, room.rows, room.bindings);
         write_runs(out, &table.rows, 3);
         let _ = writeln!(out, "{}", table.more_rows);
         write_runs(out, &table.names, 0);
@@ -274,19 +270,20 @@ pub fn write(file: &str) {
         write_runs(out, &answer.rows, 3);
         write_runs(out, &answer.bindings, 2);
     };
-    let mut turn = 0;
+    let print_room = |switches: Switches| Options::new(switches).bits();
+    let tablet = |switches: Switches| Options::new(switches).tablet(true).bits();
     // These in exact room; the constructors whether or not they show something new.
     for table in constructors() {
         for switches in EIGHT {
-            take(&mut out, switches, &table, 5, 0);
+            take(&mut out, print_room(switches), &table, 5, 0);
         }
     }
     for table in worked() {
         for switches in EIGHT {
-            take(&mut out, switches, &table, 5, 1);
+            take(&mut out, print_room(switches), &table, 5, 1);
         }
     }
-    for _ in 0..30_000 {
+    for turn in 1..=30_000 {
         let style = Style {
             rows: 4 + random.below(20),
             deepest: 40,
@@ -299,8 +296,33 @@ pub fn write(file: &str) {
             made = damaged_copy(&mut random, &made);
         }
         let switches = random.of(&EIGHT);
-        turn += 1;
-        take(&mut out, switches, &made, turn, 2);
+        take(&mut out, print_room(switches), &made, turn, 2);
+    }
+    for table in around_the_tablets_limits() {
+        for switches in [Switches::OFF, Switches::ASYNC, Switches::ARROWS] {
+            for word in [print_room(switches), tablet(switches)] {
+                take(&mut out, word, &table, 5, 0);
+            }
+        }
+    }
+    // In any setting and room.
+    for table in constructors().iter().chain(&worked()) {
+        take(&mut out, tablet(random.of(&EIGHT)), table, random.below(8), 0);
+    }
+    // One for each kind of row that is the first too deep.
+    let mut kinds = HashSet::new();
+    for _ in 0..4_000 {
+        let style = Style { rows: 60, deepest: 40, careless: 1_000, keen: 4, field_arrows: false };
+        let made = table(&mut random, style);
+        let word = tablet(random.of(&EIGHT));
+        let [number, place, ..] = answer(word, &Input::of(&made), Room { rows: 0, bindings: 0 }).numbers;
+        if number == 3 && kinds.insert(made.rows[place as usize][0]) {
+            take(&mut out, word, &made, 5, 0);
+        }
+    }
+    let numbers = Numbers::of(&out).list.len();
+    if out.len() > MOST_BYTES || numbers > MOST_NUMBERS {
+        stop(&format!("{} bytes and {} numbers are more than may be replayed", out.len(), numbers));
     }
     if let Err(e) = fs::write(file, &out) {
         stop(&format!("{}: {}", file, e));

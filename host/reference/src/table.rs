@@ -1,6 +1,6 @@
 //! Reading a table: the sections "Rows" and "Turned away" of the request, refusals 1, 4, 2, 3, 5.
 
-use crate::{refused, Refused, MOST_DEPTH, MOST_NAMES, MOST_ROWS, MOST_TEXT};
+use crate::{refused, Limits, Refused, MOST_NAMES, MOST_TEXT};
 
 #[derive(Clone, Copy)]
 pub struct Row {
@@ -53,9 +53,10 @@ pub fn read_names<'a>(names: &[u8], text: &'a [u8]) -> Result<Vec<&'a [u8]>, Ref
     Ok(list)
 }
 
-pub fn read<'a>(rows: &[u8], names: &[u8], text: &'a [u8]) -> Result<Table<'a>, Refused> {
+/// The table of what is lent, with the limits of the caller.
+pub fn read<'a>(rows: &[u8], names: &[u8], text: &'a [u8], limits: Limits) -> Result<Table<'a>, Refused> {
     let count = rows.len() / 16;
-    if rows.len() % 16 != 0 || count == 0 || count > MOST_ROWS || !sizes_of_names(names, text) {
+    if rows.len() % 16 != 0 || count == 0 || count > limits.rows || !sizes_of_names(names, text) {
         return refused(1, 0);
     }
     let names = read_names(names, text)?;
@@ -67,7 +68,7 @@ pub fn read<'a>(rows: &[u8], names: &[u8], text: &'a [u8]) -> Result<Table<'a>, 
             Row { kind: next(), attr: next(), name: next(), end: next() }
         })
         .collect();
-    let (parent, too_deep) = check_rows(&rows, names.len() as u32)?;
+    let (parent, too_deep) = check_rows(&rows, names.len() as u32, limits.depth)?;
     if let Some(row) = too_deep {
         return refused(3, row);
     }
@@ -108,8 +109,8 @@ enum Place {
 }
 
 /// 2: goes along the rows, gives each child its place, and stops at the first bad row. Answers the parents, and the
-/// first row that is too deep.
-fn check_rows(rows: &[Row], names: u32) -> Result<(Vec<u32>, Option<usize>), Refused> {
+/// first row that is deeper than `deepest`.
+fn check_rows(rows: &[Row], names: u32, deepest: u32) -> Result<(Vec<u32>, Option<usize>), Refused> {
     let count = rows.len();
     let mut place = vec![Place::Root; count];
     let mut parent = vec![0u32; count];
@@ -127,7 +128,7 @@ fn check_rows(rows: &[Row], names: u32) -> Result<(Vec<u32>, Option<usize>), Ref
         while child < end {
             parent[child] = i as u32;
             depth[child] = depth[i] + 1;
-            if depth[child] > MOST_DEPTH && too_deep.map_or(true, |row| child < row) {
+            if depth[child] > deepest && too_deep.map_or(true, |row| child < row) {
                 too_deep = Some(child);
             }
             match place_below(row, children) {

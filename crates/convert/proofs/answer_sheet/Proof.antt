@@ -32,9 +32,11 @@ slice-aggregate-print-converted-2 c = search needs
 
 print-converted-requires : tie.Need-print-converted-requires
 print-converted-requires c κs =
-    let a = c .before .before .before .before .before .convert .ensures .0 in
+    let done = c .before .before .before .before .before .convert in
+    let lent = done .last .1 .1 .1 .1 .1 in
+    let a = done .ensures .answers in
     let s = answer-small _ _ _ _ _ _ _ _ _ _ _ _ _ _ a in
-    (s .placed, rows-fit _ _ _ _ _ _ _ _ _ a, records-fit _ _ _ _ _ _ _ _ _ a, whole-of 32768 (c .before .before .before .before .before .convert .last .1 .1 .1 .1 .0) (slice-aggregate-print-converted (c .before .before)), whole-of 3072 (c .before .before .before .before .before .convert .last .1 .1 .1 .1 .1 .0) (slice-aggregate-print-converted-2 (c .before)))
+    (s .placed, rows-fit _ _ _ _ _ _ _ _ _ a, records-fit _ _ _ _ _ _ _ _ _ a, whole-of 32768 (lent .0) (slice-aggregate-print-converted (c .before .before)), whole-of 3072 (lent .1 .0) (slice-aggregate-print-converted-2 (c .before)))
 
 same-length : tie.Need-same-length
 same-length c = search needs
@@ -42,7 +44,13 @@ same-length c = search needs
 returns : tie.Need-returns
 returns c =
     let w = c .before .before .print-converted .ensures in
-    shown-as _ _ _ _ (told _ _ _ _ _ _ _ _ _ (c .before .before .before .before .before .before .before .before .convert .ensures .0) ∙ ap answer (lent-room (switches (c .before .before .before .before .before .before .before .before .before .before .before .before .before .before .before .before .before .args .arrow) (c .before .before .before .before .before .before .before .before .before .before .before .before .before .before .before .before .before .args .to-generator) (c .before .before .before .before .before .before .before .before .before .before .before .before .before .before .before .before .before .args .generators)) (c .before .before .before .before .before .before .before .before .before .before .before .before .before .before .before .before .before .args .rows .now) (c .before .before .before .before .before .before .before .before .before .before .before .before .before .before .before .before .before .args .pairs .now) (c .before .before .before .before .before .before .before .before .before .before .before .before .before .before .before .before .before .args .text .now) (c .before .before .before .before .before .before .before .before .before .before .before .before .result-room .result) (c .before .before .before .before .before .before .before .before .before .before .before .record-room .result) (c .before .before .before .before .before .before .before .before .before .before .before .before .result-room .ensures) (c .before .before .before .before .before .before .before .before .before .before .before .record-room .ensures)))
+    let done = c .before .before .before .before .before .before .before .before in
+    let records = done .before .before .before in
+    let rows = records .before in
+    let a = rows .before .before .before .before .before .args in
+    shown-as _ _ _ _
+    (told _ _ _ _ _ _ _ _ _ (done .convert .ensures .answers)
+    ∙ ap answer (lent-room (switches (a .arrow) (a .to-generator) (a .generators)) (a .rows .now) (a .pairs .now) (a .text .now) (rows .result-room .result) (records .record-room .result) (rows .result-room .ensures) (records .record-room .ensures)))
     (shows _ _ _ _ (w .0) (omega (arith, w .1)))
 
 pub answer-sheet-spec : {M : Type 1} → statement M
