@@ -23,7 +23,7 @@ extern "C" {
 /* `refusal` and `place`. Place is the row's number from 0, the name's or the binding's from 1, or 0. */
 enum {
     THAWCOPPER_ACCEPTED = 0,
-    THAWCOPPER_SIZES = 1,           /* place 0: a piece is too long, for this caller, or empty or not whole */
+    THAWCOPPER_SIZES = 1,           /* place 0: no rows, too many for this caller, too long, or not whole */
     THAWCOPPER_BAD_ROW = 2,         /* the first row that breaks the form */
     THAWCOPPER_TOO_DEEP = 3,        /* the first row deeper than 128, on a tablet than 32 */
     THAWCOPPER_BAD_NAME = 4,        /* the first name outside the text, of no or over 255 bytes, or not UTF-8 */
@@ -41,7 +41,7 @@ enum {
     THAWCOPPER_ARROW = 1,              /* arrow functions become functions */
     THAWCOPPER_ASYNC_TO_GENERATOR = 2, /* async functions and async arrows will be moved */
     THAWCOPPER_ASYNC_GENERATORS = 4,   /* async generators will be moved */
-    THAWCOPPER_TABLET = 8              /* a tablet calls: at most 512 rows and depth 32, for 16,384 and 128 */
+    THAWCOPPER_TABLET = 8              /* a tablet calls: at most 512 rows and depth 32, not 16,384 and 128 */
 };
 
 /* A record's use. */

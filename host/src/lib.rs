@@ -83,8 +83,8 @@ impl Switches {
 /// assert_eq!(convert_with(&tablet, &table), Err(Refusal::Sizes));
 /// ```
 ///
-/// There may be more of them one day, so they are made by functions, and changed by functions or by their fields. All
-/// that there are now are not enough:
+/// They are made by functions, and changed by functions or by their fields. Later versions may have more fields, so a
+/// literal with those of today does not compile outside of this package:
 ///
 /// ```compile_fail,E0639
 /// use thawcopper::{Options, Switches};

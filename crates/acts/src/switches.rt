@@ -11,7 +11,7 @@ pub struct Switches {
     pub async_generator_functions: bool,
 }
 
-// Whether the bit of an attr is set whose value is j: 1, 2, 4 or 8.
+// Whether the bit of a word, such as an attr, is set whose value is j: 1, 2, 4 or 8.
 pub fn has_bit(j: usize, attr: usize) -> bool
     requires { ⌜ 1 ≤ j ⌝ }
     ensures { λ r. ⌜ r ≡ bit j attr ⌝ }

@@ -1,4 +1,4 @@
--- Request 1: below the check a caller's answer is the print room's. Assumes nothing.
+-- Change request No. 1: below the check a caller's answer is the print room's. Assumes nothing.
 use mathlib.Core.Path.{_≡_, sym, ap₂, subst, _∙_}
 use mathlib.Core.Bool.{Bool, true, false}
 use mathlib.Core.List.{List}

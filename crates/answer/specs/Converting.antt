@@ -22,7 +22,7 @@ lentRoom outRows outBindings = record { rows = length outRows / 16; bindings = l
 abbrev pub outcomeAs : (tablet : Bool) → Switches → (rows names text : List ℕ) → Room → Outcome
 outcomeAs tablet w rows names text room = outcome (rowLimitOf tablet) (depthLimitOf tablet) w rows names text room
 
--- and what the print room is, by what it lends
+-- what the print room is answered, given the bytes that it lends
 abbrev pub outcomeOf : Switches → (rows names text outRows outBindings : List ℕ) → Outcome
 outcomeOf w rows names text outRows outBindings = outcomeAs false w rows names text (lentRoom outRows outBindings)
 

@@ -1,4 +1,4 @@
--- Request 1: a table that is sound under two limits is sound under larger ones. Assumes nothing.
+-- Change request No. 1: a table that is sound under two limits is sound under larger ones. Assumes nothing.
 use mathlib.Core.Path.{_≡_}
 use mathlib.Core.List.{List}
 use Prim.Native.Nat.{ℕ, _+_, _≤_}

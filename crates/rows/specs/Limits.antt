@@ -1,4 +1,4 @@
--- Request 1, "Contractors' tablets with less room": the limits of the two callers. Assumes nothing.
+-- Change request No. 1, "Contractors' tablets with less room": the limits of the two callers. Assumes nothing.
 use Prim.Native.Nat.{ℕ}
 use mathlib.Core.Bool.{Bool, cond}
 

@@ -18,12 +18,12 @@ pub struct Limits {
     pub depth: usize,
 }
 
-// "The contractors' tablet build takes at most 512 rows and depth 32;
+// "The contractors' tablet build takes at most 512 rows and depth 32"
 const TABLET_ROWS: usize = 512;
 
 const TABLET_DEPTH: usize = 32;
 
-// the print room keeps 16,384 and 128."
+// "the print room keeps 16,384 and 128"
 const PRINT_ROOM_ROWS: usize = 16384;
 
 const PRINT_ROOM_DEPTH: usize = 128;

@@ -1,4 +1,4 @@
--- Request 1: what is accepted under two limits gives the same rows and bindings under larger ones. Assumes nothing.
+-- Change request No. 1: what is accepted under two limits gives the same rows and bindings under larger ones. Assumes nothing.
 use mathlib.Core.Path.{_≡_, sym, _∙_}
 use mathlib.Core.List.{List}
 use Prim.Native.Nat.{ℕ, _≤_}

@@ -23,7 +23,7 @@ on x = not (eqb x 0)
 abbrev pub switchesFrom : (arrow asyncToGenerator asyncGeneratorFunctions : ℕ) → Switches
 switchesFrom arrow asyncToGenerator asyncGeneratorFunctions = switches (on arrow) (on asyncToGenerator) (on asyncGeneratorFunctions)
 
--- Convert with options: "bits 1 arrow, 2 async-to-generator, 4 async generators, 8 tablet". A bit without a name is not looked at.
+-- Convert with options, which are bits of one word: 1 arrow, 2 async-to-generator, 4 async generators, 8 tablet. A bit without a name is not looked at.
 abbrev pub switchesIn : (options : ℕ) → Switches
 switchesIn options = switches (bit 1 options) (bit 2 options) (bit 4 options)
 

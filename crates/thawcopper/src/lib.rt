@@ -90,7 +90,7 @@ fn answer_of(converted: Converted) -> Answer
 }
 
 // A table of either caller converted, and the numbers of the answer.
-fn converted(
+fn convert_as(
     tablet: bool,
     switches: Switches,
     rows: &[u8],
@@ -126,7 +126,7 @@ pub extern "C" fn thawcopper_convert(
         async_to_generator: async_to_generator != 0,
         async_generator_functions: async_generator_functions != 0,
     };
-    converted(false, switches, rows, names, text, out_rows, out_bindings)
+    convert_as(false, switches, rows, names, text, out_rows, out_bindings)
 }
 
 // The same for either caller, by the bits of `options`: 1 arrow, 2 async-to-generator, 4 async
@@ -150,5 +150,5 @@ pub extern "C" fn thawcopper_convert_with(
         async_generator_functions: has_bit(4, bits),
     };
     let tablet = has_bit(8, bits);
-    converted(tablet, switches, rows, names, text, out_rows, out_bindings)
+    convert_as(tablet, switches, rows, names, text, out_rows, out_bindings)
 }

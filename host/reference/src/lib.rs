@@ -283,6 +283,7 @@ mod tests {
         assert_eq!(laid, rows);
         assert_eq!(origins, (0..28).collect::<Vec<u32>>());
     }
+
     /// What the caller answers, with room for all: how many rows the result has, or the refusal.
     fn told(options: Options, rows: &[[u32; 4]]) -> Result<usize, Refused> {
         let rows = words(&rows.concat());

@@ -50,7 +50,8 @@ returns c =
     let a = rows .before .before .before .before .before .args in
     shown-as _ _ _ _
     (told _ _ _ _ _ _ _ _ _ (done .convert .ensures .answers)
-    ∙ ap answer (lent-room (switches (a .arrow) (a .to-generator) (a .generators)) (a .rows .now) (a .pairs .now) (a .text .now) (rows .result-room .result) (records .record-room .result) (rows .result-room .ensures) (records .record-room .ensures)))
+    ∙ ap answer
+    (lent-room (switches (a .arrow) (a .to-generator) (a .generators)) (a .rows .now) (a .pairs .now) (a .text .now) (rows .result-room .result) (records .record-room .result) (rows .result-room .ensures) (records .record-room .ensures)))
     (shows _ _ _ _ (w .0) (omega (arith, w .1)))
 
 pub answer-sheet-spec : {M : Type 1} → statement M

@@ -15,8 +15,8 @@ has-bit-requires-3 c κs = search needs
 has-bit-requires-4 : tie.Need-has-bit-requires-4
 has-bit-requires-4 c κs = search needs
 
-converted-requires : tie.Need-converted-requires
-converted-requires c κs = search needs
+convert-as-requires : tie.Need-convert-as-requires
+convert-as-requires c κs = search needs
 
 same-length : tie.Need-same-length
 same-length c = search needs
@@ -30,7 +30,7 @@ returns c =
     let tablet = done .before .before .before in
     let generators = tablet .before in
     let moved = generators .before in
-    rw (← moved .before .has-bit .ensures, ← moved .has-bit2 .ensures, ← generators .has-bit3 .ensures, ← tablet .has-bit4 .ensures) (done .converted .ensures)
+    rw (← moved .before .has-bit .ensures, ← moved .has-bit2 .ensures, ← generators .has-bit3 .ensures, ← tablet .has-bit4 .ensures) (done .convert-as .ensures)
 
 pub thawcopper-convert-with-spec : {M : Type 1} → statement M
 thawcopper-convert-with-spec =
@@ -40,7 +40,7 @@ thawcopper-convert-with-spec =
     has-bit-requires-2
     has-bit-requires-3
     has-bit-requires-4
-    converted-requires
+    convert-as-requires
     same-length
     same-length-2
     returns)

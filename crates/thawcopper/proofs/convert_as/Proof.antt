@@ -1,9 +1,9 @@
--- `thawcopper::converted` meets its contract. Assumes nothing.
+-- `thawcopper::convert_as` meets its contract. Assumes nothing.
 use Rattle.answer.proofs.Owning.{renumbered}
 use Rattle.answer.proofs.Small.{answer-small}
 use borrow.Author.Needs.{needs}
-use Rattle.thawcopper.proofs.converted.Statement.{statement}
-use Rattle.thawcopper.proofs.converted.Tie as tie
+use Rattle.thawcopper.proofs.convert_as.Statement.{statement}
+use Rattle.thawcopper.proofs.convert_as.Tie as tie
 
 convert-requires : tie.Need-convert-requires
 convert-requires c κs = search needs
@@ -20,6 +20,6 @@ same-length-2 c = search needs
 returns : tie.Need-returns
 returns c = let s = c .answer-of .ensures in renumbered _ _ _ _ (s .0) (s .1) (s .2) (s .3) (c .before .before .before .before .before .convert .ensures)
 
-pub converted-spec : {M : Type 1} → statement M
-converted-spec =
+pub convert-as-spec : {M : Type 1} → statement M
+convert-as-spec =
     tie.close (tie.spec convert-requires answer-of-requires same-length same-length-2 returns)
