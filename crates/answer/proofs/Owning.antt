@@ -2,11 +2,10 @@
 use mathlib.Core.Path.{_≡_, refl, sym, ap, ap₂, subst, _∙_}
 use mathlib.Core.Bool.{Bool, true, false, cond, _&&_}
 use mathlib.Core.List.{List, [], _∷_}
-use Prim.Native.Nat.{ℕ, _+_, _*_, _/_, _%_}
+use Prim.Native.Nat.{ℕ, _*_, _/_}
 use native.Mathlib.Omega.{arith}
 use lib.Dec.{leb}
-use lib.ListN.{length, take, drop}
-use lib.Seq.{take-at}
+use lib.ListN.{length, take}
 use Rattle.names.specs.Words.{words}
 use Rattle.forest.specs.Forest.{Rows, size, flat, rowsAt, table}
 use Rattle.rows.specs.Limits.{rowLimitOf, depthLimitOf}
@@ -25,26 +24,10 @@ use Rattle.steps.specs.Outcome.{Outcome, Outcome.refused, Outcome.converted, na
 use Rattle.steps.specs.Accepted.{Accepted}
 use Rattle.steps.specs.Owners.{OwnersKept, arrowsOn}
 use Rattle.steps.proofs.Acceptance.{Converted, converts, owner-rule}
-use Rattle.output.specs.Output.{le32}
-use Rattle.output.specs.Bytes.{bytesOf}
-use Rattle.output.proofs.Placing.{length-bytes}
-use Rattle.answer.specs.Converting.{lentRoom, outcomeAs, atFront, Answers, recordsIn, resultIn, KeepsOwners, Converts}
+use Rattle.output.proofs.Placing.{front-words}
+use Rattle.answer.specs.Converting.{lentRoom, outcomeAs, Answers, recordsIn, resultIn, KeepsOwners, Converts}
 
--- the bytes of words read back as those words
-words-back : (ws : List ℕ) → words (bytesOf ws) ≡ ws
-unfolding words bytesOf le32
-words-back [] = refl
-words-back (x ∷ ws) =
-    let e : x % 256 + 256 * (x / 256 % 256) + 65536 * (x / 65536 % 256) + 16777216 * (x / 16777216) ≡ x = omega arith in
-    rw (e, words-back ws)
-
--- the words at the front
-front-words : (ws before after : List ℕ) (n : ℕ) → 4 * length ws ≡ n → after ≡ atFront ws before → words (take n after) ≡ ws
-front-words ws before after n l q =
-    ap (λ (m : List ℕ). words (take n m)) q
-    ∙ ap words (take-at (bytesOf ws) (drop (length (bytesOf ws)) before) n (length-bytes ws ∙ l))
-    ∙ words-back ws
-
+-- the records of bindings read back as those bindings
 records-back : (bs : List Binding) → recordsIn (records bs) ≡ bs
 unfolding recordsIn records
 records-back [] = refl
@@ -94,8 +77,8 @@ module _ (rowLimit depthLimit : ℕ) (w : Switches) (rows names text outRows out
     read-result ws bs q a =
         let C : Converted rowLimit depthLimit w rows names text (lentRoom outRows outBindings) ws bs = converts rowLimit depthLimit w rows names text (lentRoom outRows outBindings) ws bs q in
         let R : Result = steps (namesOf names text) w (table rows) in
-        let u : words (take (16 * n) outRows′) ≡ flat 0 (R .rows) = front-words ws outRows outRows′ (16 * n) (omega (arith, a .counted)) (a .rows-written) ∙ C .rows-are in
-        let v : words (take (12 * m) outBindings′) ≡ records (R .bindings) = front-words bs outBindings outBindings′ (12 * m) (omega (arith, a .listed)) (a .bindings-written) ∙ C .bindings-are in
+        let u : words (take (16 * n) outRows′) ≡ flat 0 (R .rows) = front-words ws _ outRows′ (16 * n) (omega (arith, a .counted)) (a .rows-written) ∙ C .rows-are in
+        let v : words (take (12 * m) outBindings′) ≡ records (R .bindings) = front-words bs _ outBindings′ (12 * m) (omega (arith, a .listed)) (a .bindings-written) ∙ C .bindings-are in
         let s : n ≡ size (R .rows) = omega (arith, a .counted, ap length (C .rows-are), length-flat 0 (R .rows)) in
         ap₂ (λ (x : Rows) (y : List Binding). record { rows = x; bindings = y })
         (ap (λ (x : List ℕ). rowsAt x 0 n) u ∙ ap (rowsAt (flat 0 (R .rows)) 0) s ∙ read-back (R .rows))

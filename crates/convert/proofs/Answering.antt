@@ -1,36 +1,21 @@
 -- From an answer of `convert` to the text of the program. Assumes nothing.
-use mathlib.Core.Path.{_≡_, refl, sym, ap, ap₂, subst, _∙_}
+use mathlib.Core.Path.{_≡_, sym, ap, ap₂, subst, _∙_}
 use mathlib.Core.Bool.{false}
-use mathlib.Core.List.{List, [], _∷_}
-use Prim.Native.Nat.{ℕ, _+_, _*_, _/_, _%_, _≤_}
+use mathlib.Core.List.{List}
+use Prim.Native.Nat.{ℕ, _+_, _*_, _/_, _≤_}
 use native.Mathlib.Omega.{arith}
 use lib.ListN.{length, take, drop, length-append}
 use lib.Seq.{sets-eq, length-sets, take-at}
 use Rattle.names.specs.Words.{words}
 use Rattle.steps.specs.Mode.{Switches}
 use Rattle.steps.specs.Outcome.{Outcome}
-use Rattle.output.specs.Output.{le32}
 use Rattle.output.specs.Bytes.{bytesOf}
-use Rattle.output.proofs.Placing.{length-bytes}
+use Rattle.output.proofs.Placing.{length-bytes, front-words}
 use Rattle.answer.specs.Converting.{outcomeAs, outcomeOf, numberIn, placeIn, rowWords, recordWords, atFront, Answers}
 use Rattle.printer.specs.Print.{printed, Wrote}
 use Rattle.convert.specs.Output.{answer, outcomeFor, Shows}
 
--- the bytes of words read back as those words
-words-back : (ws : List ℕ) → words (bytesOf ws) ≡ ws
-unfolding words bytesOf le32
-words-back [] = refl
-words-back (x ∷ ws) =
-    let e : x % 256 + 256 * (x / 256 % 256) + 65536 * (x / 65536 % 256) + 16777216 * (x / 16777216) ≡ x = omega arith in
-    rw (e, words-back ws)
-
--- the words at the front, and that they are all there
-front-words : (ws before after : List ℕ) (n : ℕ) → n ≡ 4 * length ws → after ≡ atFront ws before → words (take n after) ≡ ws
-front-words ws before after n l q =
-    ap (λ (m : List ℕ). words (take n m)) q
-    ∙ ap words (take-at (bytesOf ws) (drop (length (bytesOf ws)) before) n (length-bytes ws ∙ sym l))
-    ∙ words-back ws
-
+-- the words at the front are all there
 front-fits : (ws before after : List ℕ) (n : ℕ) → n ≡ 4 * length ws → after ≡ atFront ws before → n ≤ length after
 front-fits ws before after n l q =
     omega (arith, length-bytes ws, ap length q, length-append (bytesOf ws) (drop (length (bytesOf ws)) before))
@@ -47,8 +32,8 @@ module _ (o : Outcome) (number place n m : ℕ) (rows rows′ records records′
   told =
       ap₂ (λ (x y : ℕ). printed x y (words (take (16 * n) rows′)) (words (take (12 * m) records′))) (a .numbered) (a .placed)
       ∙ ap₂ (λ (x y : List ℕ). printed (numberIn o) (placeIn o) x y)
-      (front-words (rowWords o) rows rows′ (16 * n) (omega (arith, a .counted)) (a .rows-written))
-      (front-words (recordWords o) records records′ (12 * m) (omega (arith, a .listed)) (a .bindings-written))
+      (front-words (rowWords o) _ rows′ (16 * n) (omega (arith, a .counted)) (a .rows-written))
+      (front-words (recordWords o) _ records′ (12 * m) (omega (arith, a .listed)) (a .bindings-written))
 
 -- the room that the program lends
 pub lent-room : (w : Switches) (rows names text outRows outRecords : List ℕ) → 32768 ≡ length outRows → 3072 ≡ length outRecords

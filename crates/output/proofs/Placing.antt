@@ -1,7 +1,7 @@
 -- What is written where there is room for it: the bytes of the forest's words, or of the records, in place, and all else as it was. Assumes nothing.
 use mathlib.Core.Path.{_≡_, refl, sym, ap, _∙_}
 use mathlib.Core.List.{List, [], _∷_, _++_, append-assoc}
-use Prim.Native.Nat.{ℕ, _+_, _*_, _/_, _%_, _≤_, _<_, _^_}
+use Prim.Native.Nat.{ℕ, _+_, _*_, _/_, _%_, _≤_}
 use native.Mathlib.Omega.{arith}
 use lib.ListN.{length, take, drop, length-append}
 use lib.Seq.{sets, sets-eq, take-at}
@@ -11,7 +11,7 @@ use Rattle.forest.proofs.Accepting.{length-flat}
 use Rattle.steps.specs.Bindings.{Binding, Binding.bind}
 use Rattle.steps.specs.Outcome.{records}
 use Rattle.output.specs.Output.{le32, put, emitRows, putRecord, emitRecords, Done, Copied}
-use Rattle.output.specs.Bytes.{bytesOf, WordsFit, RowsFit, RecordsFit}
+use Rattle.output.specs.Bytes.{bytesOf}
 use Rattle.output.proofs.Stores.{length-le32, sets-append}
 use Rattle.output.proofs.Writing.{put-in, length-put, length-emit, emit-empty}
 use Rattle.output.proofs.Recording.{record-in, length-record}
@@ -27,12 +27,19 @@ length-bytes [] = refl
 length-bytes (x ∷ xs) = omega (arith, length-append (le32 x) (bytesOf xs), length-le32 x, length-bytes xs)
 
 -- the bytes of words read back as those words
-pub words-bytes : (ws : List ℕ) → WordsFit ws → words (bytesOf ws) ≡ ws
+words-bytes : (ws : List ℕ) → words (bytesOf ws) ≡ ws
 unfolding words bytesOf le32
-words-bytes [] h = refl
-words-bytes (x ∷ ws) h =
+words-bytes [] = refl
+words-bytes (x ∷ ws) =
     let e : x % 256 + 256 * (x / 256 % 256) + 65536 * (x / 65536 % 256) + 16777216 * (x / 16777216) ≡ x = omega arith in
-    rw (e, words-bytes ws (h .1))
+    rw (e, words-bytes ws)
+
+-- and where they stand at the front, so do the bytes there
+pub front-words : (ws rest after : List ℕ) (n : ℕ) → 4 * length ws ≡ n → after ≡ bytesOf ws ++ rest → words (take n after) ≡ ws
+front-words ws rest after n l q =
+    ap (λ (m : List ℕ). words (take n m)) q
+    ∙ ap words (take-at (bytesOf ws) rest n (length-bytes ws ∙ l))
+    ∙ words-bytes ws
 
 -- The rows.
 pub rows-bytes : (f : Rows) (o : ℕ) → length (bytesOf (flat o f)) ≡ 16 * size f
@@ -84,24 +91,6 @@ whole {before} {after} {f} {r} d h = d .wrote ∙ emit-start f before h
 pub dry : {after : List ℕ} {f : Rows} {at r : ℕ} → Done [] at f r after → (r ≡ at + size f) × (after ≡ [])
 dry {after} {f} {at} {r} d = (d .next, d .wrote ∙ emit-empty f at)
 
--- its words read back as the forest's
-fit-append : (xs ys : List ℕ) → WordsFit xs → WordsFit ys → WordsFit (xs ++ ys)
-fit-append [] ys g h = h
-fit-append (x ∷ xs) ys g h = (g .0, fit-append xs ys (g .1) h)
-
-pub flat-fits : (f : Rows) (o : ℕ) → RowsFit f → o + size f < 2 ^ 32 → WordsFit (flat o f)
-unfolding flat size
-flat-fits none o g h = tt
-flat-fits (node k a n i s) o g h =
-    let below = fit-append (flat (o + 1) i) (flat (o + 1 + size i) s) (flat-fits i (o + 1) (g .3) (omega arith)) (flat-fits s (o + 1 + size i) (g .4) (omega arith)) in
-    (g .0, (g .1, (g .2, (omega arith, below))))
-
-pub written-words : (f : Rows) (o : List ℕ) → 16 * size f ≤ length o → RowsFit f → size f < 2 ^ 32 → words (take (16 * size f) (emitRows o 0 f)) ≡ flat 0 f
-written-words f o h g b =
-    ap (λ (m : List ℕ). words (take (16 * size f) m)) (emit-start f o h)
-    ∙ ap words (take-at (bytesOf (flat 0 f)) (drop (16 * size f) o) (16 * size f) (rows-bytes f 0))
-    ∙ words-bytes (flat 0 f) (flat-fits f 0 g (omega arith))
-
 -- The records.
 length-of : (bs : List Binding) → length (records bs) ≡ 3 * length bs
 unfolding records
@@ -137,15 +126,3 @@ records-start bs o h =
 
 pub whole-copy : {before after : List ℕ} {bs : List Binding} {r : ℕ} → Copied before 0 bs r after → 12 * length bs ≤ length before → after ≡ bytesOf (records bs) ++ drop (12 * length bs) before
 whole-copy {before} {after} {bs} {r} d h = d .wrote ∙ records-start bs before h
-
--- its words read back as the records'
-pub records-fit : (bs : List Binding) → RecordsFit bs → WordsFit (records bs)
-unfolding records
-records-fit [] g = tt
-records-fit (bind u x f ∷ bs) g = (g .0, (g .1, (g .2, records-fit bs (g .3))))
-
-pub written-records : (bs : List Binding) (o : List ℕ) → 12 * length bs ≤ length o → RecordsFit bs → words (take (12 * length bs) (emitRecords o 0 bs)) ≡ records bs
-written-records bs o h g =
-    ap (λ (m : List ℕ). words (take (12 * length bs) m)) (records-start bs o h)
-    ∙ ap words (take-at (bytesOf (records bs)) (drop (12 * length bs) o) (12 * length bs) (records-bytes bs))
-    ∙ words-bytes (records bs) (records-fit bs g)

@@ -7,7 +7,7 @@ use Rattle.rows.specs.declared.Checked.the-variants.{Sound}
 use Rattle.rows.proofs.Larger.{checked-up}
 use Rattle.steps.specs.Mode.{Switches}
 use Rattle.steps.specs.Accepted.{Accepted}
-use Rattle.steps.specs.Outcome.{Outcome, Outcome.converted, Room, outcome}
+use Rattle.steps.specs.Outcome.{Outcome.converted, Room, outcome}
 use Rattle.steps.proofs.Acceptance.{Converted, converts}
 
 module _ (rowLimit depthLimit moreRows moreDepth : ℕ) (w : Switches) (rows names text : List ℕ) (lr : rowLimit ≤ moreRows) (ld : depthLimit ≤ moreDepth) where
