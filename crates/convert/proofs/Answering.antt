@@ -12,7 +12,8 @@ use Rattle.steps.specs.Outcome.{Outcome}
 use Rattle.output.specs.Bytes.{bytesOf}
 use Rattle.output.proofs.Placing.{length-bytes, front-words}
 use Rattle.answer.specs.Converting.{outcomeAs, outcomeOf, numberIn, placeIn, rowWords, recordWords, atFront, Answers}
-use Rattle.printer.specs.Print.{printed, Wrote}
+use Rattle.decimal.specs.Decimal.{Wrote}
+use Rattle.printer.specs.Print.{printed}
 use Rattle.convert.specs.Output.{answer, outcomeFor, Shows}
 
 -- the words at the front are all there

@@ -19,7 +19,8 @@ ghost use lib.ListN.{length, take};
 ghost use Rattle.names.specs.Words.{words};
 ghost use Rattle.steps.specs.Mode.{switches};
 ghost use Rattle.answer.specs.Answer.{numberOf, placeOf, rowsOf, bindingsOf};
-ghost use Rattle.printer.specs.Print.{printed, Wrote};
+ghost use Rattle.decimal.specs.Decimal.{Wrote};
+ghost use Rattle.printer.specs.Print.{printed};
 ghost use Rattle.form.specs.Form.{told, close, pointOf, Fits};
 ghost use Rattle.convert.specs.Output.{answer, outcomeFor, outputFor, answerLong, Shows};
 

@@ -9,14 +9,15 @@ use lib.Dec.{ltb, eqb}
 use borrow.Author.Tests.{le-ltb, ltb-true, ltb-false, eq-eqb, ne-eqb, lt-leb}
 use Rattle.steps.specs.Mode.{switches}
 use Rattle.fields.specs.Headers.{switchHeader, nameHeader, rowHeader}
-use Rattle.printer.specs.Print.{digits, decimal, line, headed, rowLines}
+use Rattle.decimal.specs.Decimal.{digits, decimal}
+use Rattle.printer.specs.Print.{line, headed, rowLines}
 use Rattle.fields.specs.Fields.{push, split, lines, fields, rowOf, digitsOf, number, sameBytes, switchesOk}
 use Rattle.parser.specs.Parse.{Read.sheet, rowsFrom, wordsFrom, hasRows, namesIn, afterNames, fromFirst, fromSecond, fromThird, fromFourth, sheetOf}
 use Rattle.parser.specs.Sheet.{bit, nameLines, sheetText, clear, Plain, Whole}
 use Rattle.fields.specs.declared.Number.the-variants.{Value, Bad}
 use Rattle.fields.specs.declared.Row.the-variants.{Words}
 use Rattle.parser.specs.declared.Lines.the-variants.{Count}
-use Rattle.printer.proofs.Printing.{decimal-small, decimal-more}
+use Rattle.decimal.proofs.Digits.{decimal-small, decimal-more}
 
 -- one more digit
 digit-one : (v d : ℕ) → d < 10 → v * 10 + d < 4294967296 → digitsOf v ((48 + d) ∷ []) ≡ Value (v * 10 + d)

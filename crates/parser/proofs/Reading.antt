@@ -13,7 +13,7 @@ use Rattle.output.proofs.Stores.{sets-append}
 use Rattle.output.proofs.Placing.{bytes-append, length-bytes}
 use Rattle.fields.specs.Headers.{rowHeader}
 use Rattle.fields.specs.Fields.{part, fields, lines, rowOf, Next, sameBytes}
-use Rattle.printer.specs.Print.{Wrote}
+use Rattle.decimal.specs.Decimal.{Wrote}
 use Rattle.parser.specs.Parse.{addRow, rowsFrom, wordsFrom, RowsRead, SmallLines, hasRows, namesIn, afterNames, joined, pairsFrom, NamesRead}
 use Rattle.fields.specs.declared.Row.the-variants.{Words, Fault}
 use Rattle.parser.specs.declared.Lines.the-variants.{Count, Wrong}

@@ -2,6 +2,7 @@
 // first line that is faulty or missing, from 1.
 mod store;
 
+use decimal::put_bytes;
 use fields::Row;
 use fields::find;
 use fields::is_name_header;
@@ -11,7 +12,6 @@ use fields::is_switch_header;
 use fields::next_line;
 use fields::row_at;
 use fields::switches_at;
-use printer::put_bytes;
 use store::put_pair;
 use store::put_row;
 ghost use mathlib.Core.Path.{_≡_};
@@ -19,7 +19,7 @@ ghost use Prim.Native.Nat.{ℕ, _+_, _*_, _≤_, _<_, _^_};
 ghost use lib.ListN.{length, drop};
 ghost use Rattle.steps.specs.Mode.{switches};
 ghost use Rattle.fields.specs.Fields.{part, lines};
-ghost use Rattle.printer.specs.Print.{Wrote};
+ghost use Rattle.decimal.specs.Decimal.{Wrote};
 ghost use Rattle.parser.specs.Parse.{RowsRead, SmallLines, NamesRead, Told, Room, lent, fromFirst, fromSecond, fromThird, fromFourth, sheetOf};
 
 const NEWLINE: u8 = 10;

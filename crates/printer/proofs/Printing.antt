@@ -1,93 +1,14 @@
 -- Laws of printing. Assumes nothing.
 use mathlib.Core.Path.{_≡_, refl, sym, ap, ap₂, _∙_}
-use mathlib.Core.Bool.{Bool, true, false, cond}
 use mathlib.Core.List.{List, [], _∷_, _++_, append-assoc, append-nil}
-use Prim.Native.Nat.{ℕ, zero, suc, _+_, _*_, _/_, _%_, _≤_, _<_}
+use Prim.Native.Nat.{ℕ, zero, suc, _+_, _*_, _/_, _≤_, _<_}
 use native.Mathlib.Omega.{arith}
-use native.Mathlib.Numerals.{add-one}
-use lib.ListN.{length, set, length-append, take, getD}
-use lib.Seq.{sets, set-out, take-suc, take-all}
-use lib.Dec.{ltb}
-use borrow.Author.Tests.{lt-ltb, le-ltb, ltb-true, ltb-false}
+use lib.ListN.{length, take, getD}
 use Rattle.names.specs.Words.{words}
-use Rattle.printer.specs.Print.{digits, decimal, line, rowLines, rowLine, recordLines, recordLine, headed, printed, Wrote}
+use Rattle.decimal.specs.Decimal.{decimal, Wrote}
+use Rattle.decimal.proofs.Writing.{then}
+use Rattle.printer.specs.Print.{line, rowLines, rowLine, recordLines, recordLine, headed, printed}
 use Rattle.fields.specs.Headers.{answerHeader, rowHeader, recordHeader}
-
--- what is written in two goes
-pub sets-append : (xs ys l : List ℕ) (i : ℕ) → sets l i (xs ++ ys) ≡ sets (sets l i xs) (i + length xs) ys
-sets-append [] ys l i = let e : i + 0 ≡ i = omega arith in rw e
-sets-append (x ∷ xs) ys l i =
-    let e : i + suc (length xs) ≡ suc i + length xs = omega arith in
-    sets-append xs ys (set l i x) (suc i) ∙ rw e
-
-pub then : {l m o xs ys : List ℕ} {i j k : ℕ} → Wrote l i xs j m → Wrote m j ys k o → Wrote l i (xs ++ ys) k o
-then {l} {m} {o} {xs} {ys} {i} {j} {k} a b = record {
-  next = omega (arith, a .next, b .next, length-append xs ys);
-  wrote = b .wrote ∙ ap (λ (n : ℕ). sets m n ys) (a .next) ∙ ap (λ (n : List ℕ). sets n (i + length xs) ys) (a .wrote) ∙ sym (sets-append xs ys l i);
-}
-
-pub one : (l : List ℕ) (i b : ℕ) → Wrote l i (b ∷ []) (i + 1) (set l i b)
-one l i b = record { next = refl; wrote = refl }
-
-pub none : (l : List ℕ) (i b : ℕ) → length l ≤ i → Wrote l i (b ∷ []) (i + 1) l
-none l i b h = record { next = refl; wrote = sym (set-out l i b h) }
-
--- any fuel that is enough
-fuel : (f g n : ℕ) → n < f → n < g → digits f n ≡ digits g n
-unfolding digits
-fuel zero g n h k = absurd (omega arith)
-fuel (suc f) zero n h k = absurd (omega arith)
-fuel (suc f) (suc g) n h k = go (λ m a b. fuel f g m a b) (ltb n 10) refl
-  where
-    go : ((m : ℕ) → m < f → m < g → digits f m ≡ digits g m) → (b : Bool) → ltb n 10 ≡ b → digits (suc f) n ≡ digits (suc g) n
-    go ih true q = rw q
-    go ih false q = let l : 10 ≤ n = ltb-false n 10 q in rw (q, ih (n / 10) (omega arith) (omega arith))
-
-pub decimal-small : (n : ℕ) → n < 10 → decimal n ≡ (48 + n) ∷ []
-unfolding decimal digits
-decimal-small n h = rw (lt-ltb n 10 h)
-
-pub decimal-more : (n : ℕ) → 10 ≤ n → decimal n ≡ decimal (n / 10) ++ ((48 + n % 10) ∷ [])
-unfolding decimal digits
-decimal-more n h = rw (le-ltb n 10 h, fuel n (suc (n / 10)) (n / 10) (omega arith) (omega arith))
-
-digits-long : (f n : ℕ) → length (digits f n) ≤ f
-unfolding digits
-digits-long zero n = omega arith
-digits-long (suc f) n = go (ltb n 10) (digits-long f (n / 10))
-  where
-    go : (b : Bool) → length (digits f (n / 10)) ≤ f → length (cond b ((48 + n) ∷ []) (digits f (n / 10) ++ ((48 + n % 10) ∷ []))) ≤ suc f
-    go true h = omega arith
-    go false h = omega (arith, length-append (digits f (n / 10)) ((48 + n % 10) ∷ []))
-
-pub decimal-long : (n : ℕ) → length (decimal n) ≤ suc n
-unfolding decimal
-decimal-long n = digits-long (suc n) n
-
-pub wrote-small : (l o : List ℕ) (i r n d : ℕ) → n < 10 → d ≡ n → Wrote l i ((48 + d) ∷ []) r o → Wrote l i (decimal n) r o
-wrote-small l o i r n d h e w = rw (decimal-small n h) (rw e at w)
-
-pub wrote-more : (l m o : List ℕ) (i j r n d : ℕ) → 10 ≤ n → d ≡ n % 10 → Wrote l i (decimal (n / 10)) j m → Wrote m j ((48 + d) ∷ []) r o → Wrote l i (decimal n) r o
-wrote-more l m o i j r n d h e a b = rw (decimal-more n h) (then a (rw e at b))
-
-ten-more : (b k : ℕ) → 1 ≤ k → ((m : ℕ) → m < b → length (decimal m) ≤ k) → (n : ℕ) → n < 10 * b → length (decimal n) ≤ k + 1
-ten-more b k z h n l = go (ltb n 10) refl
-  where
-    go : (t : Bool) → ltb n 10 ≡ t → length (decimal n) ≤ k + 1
-    go true q = omega (arith, ap length (decimal-small n (ltb-true n 10 q)))
-    go false q =
-        let g : 10 ≤ n = ltb-false n 10 q in
-        let i = h (n / 10) (omega arith) in
-        omega (arith, ap length (decimal-more n g), length-append (decimal (n / 10)) ((48 + n % 10) ∷ []))
-
-one-digit : (n : ℕ) → n < 10 → length (decimal n) ≤ 1
-one-digit n h = omega (arith, ap length (decimal-small n h))
-
--- a u32 has at most ten digits
-pub ten-digits : (n : ℕ) → n < 4294967296 → length (decimal n) ≤ 10
-ten-digits n h =
-    ten-more 1000000000 9 (omega arith) (ten-more 100000000 8 (omega arith) (ten-more 10000000 7 (omega arith) (ten-more 1000000 6 (omega arith) (ten-more 100000 5 (omega arith)
-    (ten-more 10000 4 (omega arith) (ten-more 1000 3 (omega arith) (ten-more 100 2 (omega arith) (ten-more 10 1 (omega arith) one-digit)))))))) n (omega arith)
 
 pub four-line : (a b c d : ℕ) → (decimal a ++ (32 ∷ [])) ++ ((decimal b ++ (32 ∷ [])) ++ ((decimal c ++ (32 ∷ [])) ++ (decimal d ++ (10 ∷ [])))) ≡ line (a ∷ b ∷ c ∷ d ∷ [])
 unfolding line
@@ -96,15 +17,6 @@ four-line a b c d = simp append-assoc
 pub three-line : (a b c : ℕ) → (decimal a ++ (32 ∷ [])) ++ ((decimal b ++ (32 ∷ [])) ++ (decimal c ++ (10 ∷ []))) ≡ line (a ∷ b ∷ c ∷ [])
 unfolding line
 three-line a b c = simp append-assoc
-
-pub nothing : (l s : List ℕ) {i : ℕ} → Wrote l i (take 0 s) i l
-nothing l s = record { next = omega arith; wrote = refl }
-
-pub one-more : (l m o s : List ℕ) (i k j r : ℕ) → k < length s → Wrote l i (take k s) j m → Wrote m j (getD s k 0 ∷ []) r o → Wrote l i (take (k + 1) s) r o
-one-more l m o s i k j r h a b = rw (add-one, take-suc s k 0 h) (then a b)
-
-pub all-of : (l m s : List ℕ) (i k j : ℕ) → k ≤ length s → length s ≤ k → Wrote l i (take k s) j m → Wrote l i s j m
-all-of l m s i k j h g a = rw (take-all k s g) at a
 
 -- what stands before row i, and row i
 four-more : (i : ℕ) → 4 * suc i ≡ suc (suc (suc (suc (4 * i))))

@@ -1,21 +1,9 @@
 -- "The sheet the program prints", as a list of bytes. Assumes nothing.
-use mathlib.Core.Path.{_≡_}
-use mathlib.Core.Bool.{cond}
 use mathlib.Core.List.{List, [], _∷_, _++_}
-use Prim.Native.Nat.{ℕ, zero, suc, _+_, _*_, _/_, _%_}
+use Prim.Native.Nat.{ℕ, _+_, _*_, _/_}
 use lib.ListN.{length, getD}
-use lib.Seq.{sets}
-use lib.Dec.{ltb}
+use Rattle.decimal.specs.Decimal.{decimal}
 use Rattle.fields.specs.Headers.{answerHeader, rowHeader, recordHeader}
-
--- the digits of n, most significant first; the first argument is fuel
-unfoldable pub digits : ℕ → ℕ → List ℕ
-digits zero n = []
-digits (suc f) n = cond (ltb n 10) ((48 + n) ∷ []) (digits f (n / 10) ++ ((48 + n % 10) ∷ []))
-
--- "Fields are decimal u32 without leading zeros"
-unfoldable pub decimal : ℕ → List ℕ
-decimal n = digits (suc n) n
 
 -- "one space apart", and the end of the line
 unfoldable pub line : List ℕ → List ℕ
@@ -47,11 +35,6 @@ unfoldable pub printed : (number place : ℕ) (rows records : List ℕ) → List
 printed number place rows records =
     headed answerHeader ++ (line (number ∷ place ∷ length rows / 4 ∷ length records / 3 ∷ [])
     ++ (headed rowHeader ++ (rowLines rows ++ (headed recordHeader ++ recordLines records))))
-
--- the bytes bs were written from `at` on, as far as there was room, and r is one past them
-pub record Wrote (before : List ℕ) (at : ℕ) (bs : List ℕ) (r : ℕ) (after : List ℕ) : Type 0 where
-  pub next : r ≡ at + length bs
-  pub wrote : after ≡ sets before at bs
 
 -- the line of row i, and of record i
 abbrev pub rowLine : List ℕ → ℕ → List ℕ

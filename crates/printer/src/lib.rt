@@ -1,42 +1,20 @@
 // Printing an answer. Each function writes from byte `at` on, drops what does not fit, and answers
 // where it stopped, as if there were room for all.
+use decimal::put_byte;
+use decimal::put_bytes;
+use decimal::put_number;
 use names::words::cell;
 ghost use mathlib.Core.Path.{_≡_};
 ghost use mathlib.Core.List.{List, [], _∷_, _++_};
 ghost use Prim.Native.Nat.{ℕ, _+_, _*_, _/_, _≤_, _<_, _^_};
 ghost use lib.ListN.{length, getD};
 ghost use Rattle.names.specs.Words.{words};
-ghost use Rattle.printer.specs.Print.{decimal, line, rowLine, rowLines, recordLine, recordLines, printed, Wrote};
+ghost use Rattle.decimal.specs.Decimal.{decimal, Wrote};
+ghost use Rattle.printer.specs.Print.{line, rowLine, rowLines, recordLine, recordLines, printed};
 
 const SPACE: u8 = 32;
 
 const NEWLINE: u8 = 10;
-
-const ZERO: u8 = 48;
-
-fn put_byte(out: &mut [u8], at: usize, b: u8) -> usize
-    requires { ⌜ at < 2 ^ 63 ⌝ }
-    ensures { λ r. ⌜ Wrote (now (out .entry)) at (b ∷ []) r (now (out .exit)) ⌝ }
-{
-    if at < out.len() {
-        out[at] = b;
-        return at + 1;
-    }
-    at + 1
-}
-
-// n in decimal, most significant digit first.
-fn put_number(out: &mut [u8], at: usize, n: u32) -> usize
-    requires { ⌜ at < 2 ^ 62 ⌝ }
-    ensures { λ r. ⌜ (Wrote (now (out .entry)) at (decimal n) r (now (out .exit))) × (r ≤ at + 10) ⌝ }
-{
-    if n < 10 {
-        put_byte(out, at, ZERO + n as u8)
-    } else {
-        let next = put_number(out, at, n / 10);
-        put_byte(out, next, ZERO + (n % 10) as u8)
-    }
-}
 
 // A number and the byte after it.
 fn put_field(out: &mut [u8], at: usize, n: u32, b: u8) -> usize
@@ -66,21 +44,6 @@ fn put_three(out: &mut [u8], at: usize, a: u32, b: u32, c: u32) -> usize
     let i = put_field(out, at, a, SPACE);
     let j = put_field(out, i, b, SPACE);
     put_field(out, j, c, NEWLINE)
-}
-
-// The bytes of s.
-pub fn put_bytes(out: &mut [u8], at: usize, s: &[u8]) -> usize
-    requires { ⌜ at < 2 ^ 60 ⌝ }
-    requires { ⌜ length (now s) < 2 ^ 60 ⌝ }
-    ensures { λ r. ⌜ Wrote (now (out .entry)) at (now (s .entry)) r (now (out .exit)) ⌝ }
-{
-    let mut i: usize = 0;
-    let mut to = at;
-    while i < s.len() {
-        to = put_byte(out, to, s[i]);
-        i += 1;
-    }
-    to
 }
 
 // Row i of some bytes, a line.

@@ -1,5 +1,5 @@
 -- `printer::put_field` meets its contract. Assumes nothing.
-use Rattle.printer.proofs.Printing.{then}
+use Rattle.decimal.proofs.Writing.{then}
 use native.Mathlib.Omega.{arith}
 use borrow.Author.Needs.{needs}
 use Rattle.printer.proofs.put_field.Statement.{statement}

@@ -1,5 +1,6 @@
 -- `printer::put_four` meets its contract. Assumes nothing.
-use Rattle.printer.proofs.Printing.{then, four-line}
+use Rattle.decimal.proofs.Writing.{then}
+use Rattle.printer.proofs.Printing.{four-line}
 use native.Mathlib.Omega.{arith}
 use borrow.Author.Needs.{needs}
 use Rattle.printer.proofs.put_four.Statement.{statement}

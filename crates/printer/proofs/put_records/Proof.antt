@@ -4,7 +4,8 @@ use Prim.Native.Nat.{_+_, _-_, _*_, _≤_}
 use native.Mathlib.Omega.{arith}
 use lib.ListN.{length, take}
 use Rattle.names.specs.Words.{words}
-use Rattle.printer.specs.Print.{Wrote, recordLines}
+use Rattle.decimal.specs.Decimal.{Wrote}
+use Rattle.printer.specs.Print.{recordLines}
 use Rattle.printer.proofs.Printing.{no-records, record-more, all-records, words-long}
 use Rattle.printer.proofs.put_records.Statement.{statement}
 use Rattle.printer.proofs.put_records.Tie as tie

@@ -4,7 +4,8 @@ use Prim.Native.Nat.{_+_, _-_, _*_, _≤_}
 use native.Mathlib.Omega.{arith}
 use lib.ListN.{length, take}
 use Rattle.names.specs.Words.{words}
-use Rattle.printer.specs.Print.{Wrote, rowLines}
+use Rattle.decimal.specs.Decimal.{Wrote}
+use Rattle.printer.specs.Print.{rowLines}
 use Rattle.printer.proofs.Printing.{no-rows, row-more, all-rows, words-long}
 use Rattle.printer.proofs.put_rows.Statement.{statement}
 use Rattle.printer.proofs.put_rows.Tie as tie

@@ -1,5 +1,6 @@
 -- `printer::put_three` meets its contract. Assumes nothing.
-use Rattle.printer.proofs.Printing.{then, three-line}
+use Rattle.decimal.proofs.Writing.{then}
+use Rattle.printer.proofs.Printing.{three-line}
 use native.Mathlib.Omega.{arith}
 use borrow.Author.Needs.{needs}
 use Rattle.printer.proofs.put_three.Statement.{statement}

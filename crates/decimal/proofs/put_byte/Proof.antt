@@ -1,8 +1,8 @@
--- `printer::put_byte` meets its contract. Assumes nothing.
-use Rattle.printer.proofs.Printing.{none}
+-- `decimal::put_byte` meets its contract. Assumes nothing.
+use Rattle.decimal.proofs.Writing.{none}
 use borrow.Author.Needs.{needs}
-use Rattle.printer.proofs.put_byte.Statement.{statement}
-use Rattle.printer.proofs.put_byte.Tie as tie
+use Rattle.decimal.proofs.put_byte.Statement.{statement}
+use Rattle.decimal.proofs.put_byte.Tie as tie
 
 slice-write-out : tie.Need-slice-write-out
 slice-write-out c = search needs

@@ -1,12 +1,12 @@
--- `printer::put_bytes` meets its contract. Assumes nothing.
+-- `decimal::put_bytes` meets its contract. Assumes nothing.
 use Prim.Native.Nat.{_+_, _-_, _≤_}
 use mathlib.Core.Path.{_≡_, refl, _∙_}
 use lib.ListN.{length, take}
-use Rattle.printer.specs.Print.{Wrote}
-use Rattle.printer.proofs.Printing.{nothing, one-more, all-of}
+use Rattle.decimal.specs.Decimal.{Wrote}
+use Rattle.decimal.proofs.Writing.{nothing, one-more, all-of}
 use native.Mathlib.Omega.{arith}
-use Rattle.printer.proofs.put_bytes.Statement.{statement}
-use Rattle.printer.proofs.put_bytes.Tie as tie
+use Rattle.decimal.proofs.put_bytes.Statement.{statement}
+use Rattle.decimal.proofs.put_bytes.Tie as tie
 
 abbrev Inv-loop : tie.InvT-loop
 Inv-loop out₀ at s i₀ to₀ out i to = (i ≤ length s) × (to ≡ at + i) × (length out ≡ length out₀) × (Wrote out₀ at (take i s) to out)

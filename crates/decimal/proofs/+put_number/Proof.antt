@@ -1,17 +1,17 @@
--- `printer::put_number` meets its contract. Assumes nothing.
+-- `decimal::put_number` meets its contract. Assumes nothing.
 use mathlib.Core.Path.{refl}
-use Rattle.printer.proofs.Printing.{wrote-small, wrote-more, ten-digits}
+use Rattle.decimal.proofs.Writing.{wrote-small, wrote-more, sized}
 use native.Mathlib.Omega.{arith}
 use borrow.Author.Needs.{needs}
 use Prim.Native.Nat.{ℕ, _<_}
 use borrow.Fn.Kinds.{In}
 use borrow.Fn.PlainCycle.{Measures, is, falls, and}
-use Rattle.printer.proofs.put_number.Reads as put-number
-use Rattle.printer.proofs.put_number.Kinds as put-number-kinds
-use Rattle.printer.proofs.+put_number.Lts-put_number as put-number-lts
-use Rattle.printer.proofs.put_byte.Reads as put-byte-reads
-use Rattle.printer.proofs.+put_number.{statement}
-use Rattle.printer.proofs.+put_number.Tie.{close}
+use Rattle.decimal.proofs.put_number.Reads as put-number
+use Rattle.decimal.proofs.put_number.Kinds as put-number-kinds
+use Rattle.decimal.proofs.+put_number.Lts-put_number as put-number-lts
+use Rattle.decimal.proofs.put_byte.Reads as put-byte-reads
+use Rattle.decimal.proofs.+put_number.{statement}
+use Rattle.decimal.proofs.+put_number.Tie.{close}
 
 abbrev μ-put-number : Measures 1 put-number-kinds.ps ℕ
 μ-put-number κs a = a .1 .1 .0
@@ -96,7 +96,7 @@ put-number-returns : (t : ℕ) → put-number-lts.Need-returns (
 ) (put-number-at t) put-number.Post
 put-number-returns t c =
     let w = wrote-small _ _ _ _ _ _ (c .before .before .before .before .if1 .taken) refl (c .before .before .put-byte .ensures) in
-    (w, omega (arith, w .next, ten-digits _ (c .before .before .before .before .before .before .fits .n .fits)))
+    sized (c .before .before .before .before .before .before .fits .n .fits) w
 
 put-number-same-length-2 : (t : ℕ) → put-number-lts.Need-same-length-2 (
   put-byte-reads.Asked,
@@ -115,7 +115,7 @@ put-number-returns-2 : (t : ℕ) → put-number-lts.Need-returns-2 (
 put-number-returns-2 t c =
     let s = c .before .before .before .before .before .before .before .before in
     let w = wrote-more _ _ _ _ _ _ _ _ (s .if1 .left) refl (c .before .before .before .before .before .before .put-number .ensures .0) (c .before .before .put-byte2 .ensures) in
-    (w, omega (arith, w .next, ten-digits _ (s .before .before .fits .n .fits)))
+    sized (s .before .before .fits .n .fits) w
 
 pub +put-number-spec : {M : Type 1} → statement M
 +put-number-spec = close μ-put-number λ t. put-number-lts.spec (
