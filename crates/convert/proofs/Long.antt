@@ -8,6 +8,8 @@ use native.Mathlib.Omega.{arith}
 use lib.ListN.{length}
 use lib.Dec.{eqb, leb, ltb}
 use borrow.Author.Tests.{eq-eqb, ne-eqb, lt-leb, leb-true, leb-false}
+use Rattle.names.specs.Laid.{joined, pairsFrom}
+use Rattle.names.proofs.Laying.{pairs-long}
 use Rattle.rows.specs.Refusals.{sizesOk, limited}
 use Rattle.rows.proofs.Ordering.{is-malformed}
 use Rattle.steps.specs.Mode.{Switches}
@@ -19,7 +21,7 @@ use Rattle.fields.specs.Fields.{lines, fields, rowOf, sameBytes, switchesOk}
 use Rattle.fields.specs.Headers.{switchHeader, nameHeader}
 use Rattle.fields.specs.declared.Row.{Row}
 use Rattle.fields.specs.declared.Row.the-variants.{Words, Fault}
-use Rattle.parser.specs.Parse.{Read, Read.sheet, Read.faulty, isRow, rowsFrom, wordsFrom, hasRows, namesIn, afterNames, joined, pairsFrom, withRows, switchesIn, fromFourth, fromThird, fromSecond, fromFirst}
+use Rattle.parser.specs.Parse.{Read, Read.sheet, Read.faulty, isRow, rowsFrom, wordsFrom, hasRows, namesIn, afterNames, withRows, switchesIn, fromFourth, fromThird, fromSecond, fromFirst}
 use Rattle.parser.specs.declared.Lines.{Lines}
 use Rattle.parser.specs.declared.Lines.the-variants.{Count, Wrong}
 use Rattle.form.specs.declared.Form.{Form}
@@ -27,7 +29,6 @@ use Rattle.form.specs.Form.{told, close, scan, start, faultIn, Fits}
 use Rattle.form.proofs.Verdict.{told-text}
 use Rattle.form.proofs.Long.{sheet-long}
 use Rattle.convert.specs.Output.{answer, answerTo, outcomeFor, outputFor, answerLong, Shows}
-use Rattle.convert.proofs.Taking.{pairs-long}
 
 -- the loop over the pieces
 pub record Going (input₀ out₀ input out front : List ℕ) (f : Form) (pieces : ℕ) : Type 0 where

@@ -6,11 +6,13 @@ use Prim.Native.Nat.{ℕ, _+_, _*_, _/_, _≤_}
 use native.Mathlib.Omega.{arith}
 use lib.ListN.{length, take, drop}
 use lib.Seq.{sets, sets-eq, take-at}
+use Rattle.names.specs.Laid.{joined, pairsFrom}
+use Rattle.names.proofs.Laying.{pairs-long}
 use Rattle.steps.specs.Mode.{switches}
 use Rattle.output.specs.Bytes.{bytesOf}
 use Rattle.output.proofs.Placing.{length-bytes}
 use Rattle.printer.specs.Print.{printed}
-use Rattle.parser.specs.Parse.{Read, Read.sheet, Read.faulty, joined, pairsFrom, Lent, Small, Told}
+use Rattle.parser.specs.Parse.{Read, Read.sheet, Read.faulty, Lent, Small, Told}
 use Rattle.parser.specs.declared.Parsed.{Parsed}
 use Rattle.parser.specs.declared.Parsed.the-variants.{Sheet, Faulty}
 use Rattle.convert.specs.Output.{answer, answerTo, outcomeFor}
@@ -36,11 +38,6 @@ fault-small x n r b l t e = subst (Small n) e (t .small)
 
 pub sheet-small : (x : Read) (n : ℕ) (r : Parsed) (b : Lent) (a c d : Bool) (k i t : ℕ) → Told x n r b → r ≡ Sheet a c d k i t → (k ≤ 1024) × (i ≤ n) × (t ≤ n)
 sheet-small x n r b a c d k i t u e = subst (Small n) e (u .small)
-
-pub pairs-long : (at : ℕ) (names : List (List ℕ)) → length (pairsFrom at names) ≡ 2 * length names
-unfolding pairsFrom
-pairs-long at [] = omega arith
-pairs-long at (l ∷ ls) = omega (arith, pairs-long (at + length l) ls)
 
 -- a sheet's text, from the fronts of what was lent
 pub sheet-text : (x : Read) (n : ℕ) (r : Parsed) (b : Lent) (a c d : Bool) (k i t : ℕ) → Told x n r b → r ≡ Sheet a c d k i t

@@ -5,12 +5,13 @@ use mathlib.Core.List.{List, []}
 use Prim.Native.Nat.{ℕ, _≤_}
 use lib.ListN.{length, take}
 use lib.Dec.{eqb}
+use Rattle.names.specs.Laid.{joined, pairsFrom}
 use Rattle.steps.specs.Mode.{Switches}
 use Rattle.steps.specs.Outcome.{Outcome, Room}
 use Rattle.output.specs.Bytes.{bytesOf}
 use Rattle.answer.specs.Converting.{outcomeAs, numberIn, placeIn, rowWords, recordWords}
 use Rattle.printer.specs.Print.{printed}
-use Rattle.parser.specs.Parse.{Read, Read.sheet, Read.faulty, joined, pairsFrom, sheetOf}
+use Rattle.parser.specs.Parse.{Read, Read.sheet, Read.faulty, sheetOf}
 
 -- "The convert program prints, with room for 2,048 rows and 256 bindings"
 abbrev pub room : Room

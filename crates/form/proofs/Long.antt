@@ -7,13 +7,14 @@ use native.Mathlib.Omega.{arith}
 use lib.ListN.{length, length-append}
 use lib.Dec.{eqb, leb}
 use borrow.Author.Tests.{leb-false, eqb-true, eqb-false}
+use Rattle.names.specs.Laid.{joined}
 use Rattle.steps.specs.Mode.{Switches}
 use Rattle.fields.specs.Headers.{switchHeader, nameHeader, rowHeader}
 use Rattle.fields.specs.Fields.{push, split, lines, fields, rowOf, sameBytes, switchesOk}
 use Rattle.fields.specs.declared.Row.{Row}
 use Rattle.fields.specs.declared.Row.the-variants.{Words, Fault}
 use Rattle.fields.proofs.Splitting.{same-lengths, switches-short}
-use Rattle.parser.specs.Parse.{Read.sheet, Read.faulty, isRow, rowsFrom, wordsFrom, hasRows, namesIn, afterNames, joined, withRows, switchesIn, fromFourth, fromThird, fromSecond, fromFirst}
+use Rattle.parser.specs.Parse.{Read.sheet, Read.faulty, isRow, rowsFrom, wordsFrom, hasRows, namesIn, afterNames, withRows, switchesIn, fromFourth, fromThird, fromSecond, fromFirst}
 use Rattle.parser.specs.declared.Lines.{Lines}
 use Rattle.parser.specs.declared.Lines.the-variants.{Count, Wrong}
 use Rattle.form.specs.Form.{spelled}

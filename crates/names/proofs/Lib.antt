@@ -3,3 +3,4 @@ pub mod Cells
 pub mod Seeking
 pub mod Reading
 pub mod GoodNames
+pub mod Laying

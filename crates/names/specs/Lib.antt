@@ -2,3 +2,4 @@ pub mod Words
 pub mod Utf8
 pub mod First
 pub mod Names
+pub mod Laid

@@ -8,13 +8,14 @@ use lib.ListN.{length, drop, length-append, length-drop}
 use lib.Seq.{sets, length-take-le}
 use lib.Dec.{leb}
 use borrow.Author.Tests.{le-leb, lt-leb}
+use Rattle.names.specs.Laid.{joined, pairsFrom}
 use Rattle.output.specs.Bytes.{bytesOf}
 use Rattle.output.proofs.Stores.{sets-append}
 use Rattle.output.proofs.Placing.{bytes-append, length-bytes}
 use Rattle.fields.specs.Headers.{rowHeader}
 use Rattle.fields.specs.Fields.{part, fields, lines, rowOf, Next, sameBytes}
 use Rattle.decimal.specs.Decimal.{Wrote}
-use Rattle.parser.specs.Parse.{addRow, rowsFrom, wordsFrom, RowsRead, SmallLines, hasRows, namesIn, afterNames, joined, pairsFrom, NamesRead}
+use Rattle.parser.specs.Parse.{addRow, rowsFrom, wordsFrom, RowsRead, SmallLines, hasRows, namesIn, afterNames, NamesRead}
 use Rattle.fields.specs.declared.Row.the-variants.{Words, Fault}
 use Rattle.parser.specs.declared.Lines.the-variants.{Count, Wrong}
 use Rattle.parser.specs.declared.Names.the-variants.{Past, Missing}

@@ -1,11 +1,12 @@
 -- "Standard input, switches and rows": what is read of a sheet, line by line, or its first faulty or missing line, from 1. Assumes nothing.
 use mathlib.Core.Path.{_≡_}
 use mathlib.Core.Bool.{Bool, true, false, cond}
-use mathlib.Core.List.{List, [], _∷_, _++_}
+use mathlib.Core.List.{List, [], _∷_}
 use Prim.Native.Nat.{ℕ, _+_, _*_, _/_, _≤_, _<_, _^_}
 use lib.ListN.{length, drop, getD}
 use lib.Seq.{sets}
 use lib.Dec.{leb, eqb}
+use Rattle.names.specs.Laid.{joined, pairsFrom}
 use Rattle.steps.specs.Mode.{Switches, switches}
 use Rattle.output.specs.Bytes.{bytesOf}
 use Rattle.fields.specs.Headers.{switchHeader, nameHeader, rowHeader}
@@ -55,15 +56,6 @@ namesIn (l ∷ ls) = cond (sameBytes l rowHeader) [] (l ∷ namesIn ls)
 unfoldable pub afterNames : List (List ℕ) → List (List ℕ)
 afterNames [] = []
 afterNames (l ∷ ls) = cond (sameBytes l rowHeader) ls (afterNames ls)
-
--- the names' bytes, end to end, and their pairs: "pairs (start, length) over a UTF-8 text"
-unfoldable pub joined : List (List ℕ) → List ℕ
-joined [] = []
-joined (l ∷ ls) = l ++ joined ls
-
-unfoldable pub pairsFrom : ℕ → List (List ℕ) → List ℕ
-pairsFrom at [] = []
-pairsFrom at (l ∷ ls) = at ∷ length l ∷ pairsFrom (at + length l) ls
 
 -- The sheet, line by line.
 abbrev pub switchesIn : List ℕ → Switches

@@ -1,8 +1,8 @@
 -- Tables as the sheet has them: a line a row, and what is answered for them. Assumes nothing.
 use mathlib.Core.Path.{_≡_}
-use mathlib.Core.List.{List, [], _∷_, _++_}
-use Prim.Native.Nat.{ℕ, _+_, _/_, _%_}
-use lib.ListN.{length}
+use mathlib.Core.List.{List, [], _∷_}
+use Prim.Native.Nat.{ℕ, _/_, _%_}
+use Rattle.names.specs.Laid.{joined, pairsFrom}
 use Rattle.steps.specs.Mode.{Switches}
 use Rattle.steps.specs.Outcome.{Outcome, Room, outcome}
 
@@ -20,15 +20,6 @@ unfoldable pub bytes : List ℕ → List ℕ
 bytes [] = []
 bytes (x ∷ xs) = x % 256 ∷ x / 256 % 256 ∷ x / 65536 % 256 ∷ x / 16777216 ∷ bytes xs
 
--- names laid end to end from byte `at` on: their pairs, and the text
-unfoldable pub pairs : (at : ℕ) → List (List ℕ) → List ℕ
-pairs at [] = []
-pairs at (n ∷ ns) = at ∷ length n ∷ pairs (at + length n) ns
-
-unfoldable pub joined : List (List ℕ) → List ℕ
-joined [] = []
-joined (n ∷ ns) = n ++ joined ns
-
 abbrev pub room : (rows bindings : ℕ) → Room
 room rows bindings = record { rows = rows; bindings = bindings }
 
@@ -43,4 +34,4 @@ pub record Plot : Type 0 where
 -- every plot of a list is answered as it says, at the limits 16,384 and 128
 abbrev pub Held : List Plot → Type 0
 Held [] = Unit {0}
-Held (p ∷ ps) = (outcome 16384 128 (p .chosen) (bytes (sheet (p .table))) (bytes (pairs 0 (p .names))) (joined (p .names)) (p .lent) ≡ p .answer) × Held ps
+Held (p ∷ ps) = (outcome 16384 128 (p .chosen) (bytes (sheet (p .table))) (bytes (pairsFrom 0 (p .names))) (joined (p .names)) (p .lent) ≡ p .answer) × Held ps
