@@ -7,6 +7,8 @@ use native.Mathlib.Omega.{arith}
 use borrow.Author.Tests.{lt-leb}
 use lib.Dec.{leb}
 use lib.ListN.{length, drop}
+use Rattle.names.specs.Bytes.{bytesOf}
+use Rattle.names.proofs.Storing.{length-bytes}
 use Rattle.forest.specs.Forest.{size, flat, table}
 use Rattle.rows.specs.Refusals as checks
 use Rattle.rows.specs.Refusals.{checked}
@@ -19,8 +21,7 @@ use Rattle.steps.specs.Outcome.{Outcome, Outcome.refused, namesOf, records, unl
 use Rattle.steps.specs.Accepted.{Accepted}
 use Rattle.steps.proofs.Acceptance.{accepted-converts}
 use Rattle.output.specs.Output.{Done, Copied}
-use Rattle.output.specs.Bytes.{bytesOf}
-use Rattle.output.proofs.Placing.{rows-bytes, records-bytes, length-bytes, whole, whole-copy}
+use Rattle.output.proofs.Placing.{rows-bytes, records-bytes, whole, whole-copy}
 use Rattle.refusals.specs.Refused as turns
 use Rattle.refusals.specs.Refused.{turnedAway}
 use Rattle.refusals.specs.declared.Refused.{Refused}

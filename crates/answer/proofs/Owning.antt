@@ -7,6 +7,7 @@ use native.Mathlib.Omega.{arith}
 use lib.Dec.{leb}
 use lib.ListN.{length, take}
 use Rattle.names.specs.Words.{words}
+use Rattle.names.proofs.Storing.{front-words}
 use Rattle.forest.specs.Forest.{Rows, size, flat, rowsAt, table}
 use Rattle.rows.specs.Limits.{rowLimitOf, depthLimitOf}
 use Rattle.rows.specs.Refusals.{checked}
@@ -24,7 +25,6 @@ use Rattle.steps.specs.Outcome.{Outcome, Outcome.refused, Outcome.converted, na
 use Rattle.steps.specs.Accepted.{Accepted}
 use Rattle.steps.specs.Owners.{OwnersKept, arrowsOn}
 use Rattle.steps.proofs.Acceptance.{Converted, converts, owner-rule}
-use Rattle.output.proofs.Placing.{front-words}
 use Rattle.answer.specs.Converting.{lentRoom, outcomeAs, Answers, recordsIn, resultIn, KeepsOwners, Converts}
 
 -- the records of bindings read back as those bindings

@@ -6,6 +6,7 @@ use Prim.Native.Nat.{ℕ, _/_, _≤_, _<_, _^_}
 use native.Mathlib.Omega.{arith}
 use lib.Dec.{leb}
 use lib.ListN.{length}
+use Rattle.names.proofs.Storing.{length-bytes}
 use Rattle.forest.specs.Forest.{size, flat, table}
 use Rattle.rows.specs.Refusals as checks
 use Rattle.rows.specs.Refusals.{checked}
@@ -18,7 +19,7 @@ use Rattle.steps.specs.Mode.{Switches}
 use Rattle.steps.specs.Steps.{Result, steps}
 use Rattle.steps.specs.Outcome.{Outcome, Outcome.refused, Outcome.converted, namesOf, records, unlessRefused, within, outcome}
 use Rattle.steps.proofs.Acceptance.{Converted, converts, result-within, result-small}
-use Rattle.output.proofs.Placing.{records-bytes, length-bytes}
+use Rattle.output.proofs.Placing.{records-bytes}
 use Rattle.refusals.specs.Refused as turns
 use Rattle.refusals.specs.Refused.{turnedAway}
 use Rattle.refusals.specs.declared.Refused.{Refused}

@@ -5,6 +5,7 @@ use mathlib.Core.Bool.{Bool, false}
 use Prim.Native.Nat.{ℕ, _*_, _/_}
 use lib.ListN.{length, take, drop}
 use Rattle.names.specs.Words.{words}
+use Rattle.names.specs.Bytes.{bytesOf}
 use Rattle.forest.specs.Forest.{rowsAt, table}
 use Rattle.rows.specs.Limits.{rowLimitOf, depthLimitOf}
 use Rattle.steps.specs.Mode.{Switches}
@@ -12,7 +13,6 @@ use Rattle.steps.specs.Bindings.{Binding, Binding.bind}
 use Rattle.steps.specs.Steps.{Result}
 use Rattle.steps.specs.Outcome.{Outcome, Outcome.refused, Outcome.converted, Room, outcome}
 use Rattle.steps.specs.Owners.{OwnersKept, Calm, Home.atTop, arrowsOn}
-use Rattle.output.specs.Bytes.{bytesOf}
 
 -- "the whole ones lent": rows of 16 bytes, records of 12
 abbrev pub lentRoom : (outRows outBindings : List ℕ) → Room

@@ -7,10 +7,10 @@ use native.Mathlib.Omega.{arith}
 use lib.ListN.{length, take, drop, length-append}
 use lib.Seq.{sets-eq, length-sets, take-at}
 use Rattle.names.specs.Words.{words}
+use Rattle.names.specs.Bytes.{bytesOf}
+use Rattle.names.proofs.Storing.{length-bytes, front-words}
 use Rattle.steps.specs.Mode.{Switches}
 use Rattle.steps.specs.Outcome.{Outcome}
-use Rattle.output.specs.Bytes.{bytesOf}
-use Rattle.output.proofs.Placing.{length-bytes, front-words}
 use Rattle.answer.specs.Converting.{outcomeAs, outcomeOf, numberIn, placeIn, rowWords, recordWords, atFront, Answers}
 use Rattle.decimal.specs.Decimal.{Wrote}
 use Rattle.printer.specs.Print.{printed}

@@ -9,13 +9,13 @@ use lib.ListN.{length}
 use lib.Dec.{eqb, leb, ltb}
 use borrow.Author.Tests.{eq-eqb, ne-eqb, lt-leb, leb-true, leb-false}
 use Rattle.names.specs.Laid.{joined, pairsFrom}
+use Rattle.names.specs.Bytes.{bytesOf}
 use Rattle.names.proofs.Laying.{pairs-long}
+use Rattle.names.proofs.Storing.{length-bytes}
 use Rattle.rows.specs.Refusals.{sizesOk, limited}
 use Rattle.rows.proofs.Ordering.{is-malformed}
 use Rattle.steps.specs.Mode.{Switches}
 use Rattle.steps.specs.Outcome.{Outcome.refused, outcome}
-use Rattle.output.specs.Bytes.{bytesOf}
-use Rattle.output.proofs.Placing.{length-bytes}
 use Rattle.printer.specs.Print.{printed}
 use Rattle.fields.specs.Fields.{lines, fields, rowOf, sameBytes, switchesOk}
 use Rattle.fields.specs.Headers.{switchHeader, nameHeader}

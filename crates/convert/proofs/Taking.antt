@@ -7,10 +7,10 @@ use native.Mathlib.Omega.{arith}
 use lib.ListN.{length, take, drop}
 use lib.Seq.{sets, sets-eq, take-at}
 use Rattle.names.specs.Laid.{joined, pairsFrom}
+use Rattle.names.specs.Bytes.{bytesOf}
 use Rattle.names.proofs.Laying.{pairs-long}
+use Rattle.names.proofs.Storing.{length-bytes}
 use Rattle.steps.specs.Mode.{switches}
-use Rattle.output.specs.Bytes.{bytesOf}
-use Rattle.output.proofs.Placing.{length-bytes}
 use Rattle.printer.specs.Print.{printed}
 use Rattle.parser.specs.Parse.{Read, Read.sheet, Read.faulty, Lent, Small, Told}
 use Rattle.parser.specs.declared.Parsed.{Parsed}

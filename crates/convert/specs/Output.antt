@@ -6,9 +6,9 @@ use Prim.Native.Nat.{ℕ, _≤_}
 use lib.ListN.{length, take}
 use lib.Dec.{eqb}
 use Rattle.names.specs.Laid.{joined, pairsFrom}
+use Rattle.names.specs.Bytes.{bytesOf}
 use Rattle.steps.specs.Mode.{Switches}
 use Rattle.steps.specs.Outcome.{Outcome, Room}
-use Rattle.output.specs.Bytes.{bytesOf}
 use Rattle.answer.specs.Converting.{outcomeAs, numberIn, placeIn, rowWords, recordWords}
 use Rattle.printer.specs.Print.{printed}
 use Rattle.parser.specs.Parse.{Read, Read.sheet, Read.faulty, sheetOf}

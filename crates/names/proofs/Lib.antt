@@ -1,5 +1,6 @@
 pub mod Bools
 pub mod Cells
+pub mod Storing
 pub mod Seeking
 pub mod Reading
 pub mod GoodNames

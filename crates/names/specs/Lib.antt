@@ -1,4 +1,5 @@
 pub mod Words
+pub mod Bytes
 pub mod Utf8
 pub mod First
 pub mod Names

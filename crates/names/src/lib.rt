@@ -1,4 +1,4 @@
-// The names of a table: pairs (start, length) over a text, and what both are read from, little-endian
+// The names of a table: pairs (start, length) over a text, and what both stand in, little-endian
 // words and UTF-8. Refusal 4, and the sizes of names and text that refusal 1 tests.
 pub mod utf8;
 pub mod words;

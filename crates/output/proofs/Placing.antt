@@ -1,45 +1,19 @@
 -- What is written where there is room for it: the bytes of the forest's words, or of the records, in place, and all else as it was. Assumes nothing.
 use mathlib.Core.Path.{_≡_, refl, sym, ap, _∙_}
-use mathlib.Core.List.{List, [], _∷_, _++_, append-assoc}
-use Prim.Native.Nat.{ℕ, _+_, _*_, _/_, _%_, _≤_}
+use mathlib.Core.List.{List, [], _∷_, _++_}
+use Prim.Native.Nat.{ℕ, _+_, _*_, _≤_}
 use native.Mathlib.Omega.{arith}
-use lib.ListN.{length, take, drop, length-append}
-use lib.Seq.{sets, sets-eq, take-at}
-use Rattle.names.specs.Words.{words}
+use lib.ListN.{length, take, drop}
+use lib.Seq.{sets, sets-eq}
+use Rattle.names.specs.Bytes.{le32, bytesOf}
+use Rattle.names.proofs.Storing.{length-le32, sets-append, bytes-append, length-bytes}
 use Rattle.forest.specs.Forest.{Rows, Rows.none, Rows.node, size, flat}
 use Rattle.forest.proofs.Accepting.{length-flat}
 use Rattle.steps.specs.Bindings.{Binding, Binding.bind}
 use Rattle.steps.specs.Outcome.{records}
-use Rattle.output.specs.Output.{le32, put, emitRows, putRecord, emitRecords, Done, Copied}
-use Rattle.output.specs.Bytes.{bytesOf}
-use Rattle.output.proofs.Stores.{length-le32, sets-append}
+use Rattle.output.specs.Output.{put, emitRows, putRecord, emitRecords, Done, Copied}
 use Rattle.output.proofs.Writing.{put-in, length-put, length-emit, emit-empty}
 use Rattle.output.proofs.Recording.{record-in, length-record}
-
-pub bytes-append : (xs ys : List ℕ) → bytesOf (xs ++ ys) ≡ bytesOf xs ++ bytesOf ys
-unfolding bytesOf
-bytes-append [] ys = refl
-bytes-append (x ∷ xs) ys = rw (bytes-append xs ys) (sym (append-assoc (le32 x) (bytesOf xs) (bytesOf ys)))
-
-pub length-bytes : (xs : List ℕ) → length (bytesOf xs) ≡ 4 * length xs
-unfolding bytesOf
-length-bytes [] = refl
-length-bytes (x ∷ xs) = omega (arith, length-append (le32 x) (bytesOf xs), length-le32 x, length-bytes xs)
-
--- the bytes of words read back as those words
-words-bytes : (ws : List ℕ) → words (bytesOf ws) ≡ ws
-unfolding words bytesOf le32
-words-bytes [] = refl
-words-bytes (x ∷ ws) =
-    let e : x % 256 + 256 * (x / 256 % 256) + 65536 * (x / 65536 % 256) + 16777216 * (x / 16777216) ≡ x = omega arith in
-    rw (e, words-bytes ws)
-
--- and where they stand at the front, so do the bytes there
-pub front-words : (ws rest after : List ℕ) (n : ℕ) → 4 * length ws ≡ n → after ≡ bytesOf ws ++ rest → words (take n after) ≡ ws
-front-words ws rest after n l q =
-    ap (λ (m : List ℕ). words (take n m)) q
-    ∙ ap words (take-at (bytesOf ws) rest n (length-bytes ws ∙ l))
-    ∙ words-bytes ws
 
 -- The rows.
 pub rows-bytes : (f : Rows) (o : ℕ) → length (bytesOf (flat o f)) ≡ 16 * size f

@@ -1,33 +1,12 @@
 -- Runs of bytes that are written into a list. Assumes nothing.
 use mathlib.Core.Path.{_≡_, refl, sym, ap, _∙_}
-use mathlib.Core.List.{List, [], _∷_, _++_}
-use Prim.Native.Nat.{ℕ, suc, _+_, _/_, _%_, _≤_, _<_}
+use mathlib.Core.List.{List, [], _∷_}
+use Prim.Native.Nat.{ℕ, suc, _+_, _≤_, _<_}
 use native.Mathlib.Omega.{arith}
 use lib.ListN.{length, set}
 use lib.Seq.{sets, set-comm, set-set}
-use Rattle.output.specs.Output.{le32}
-
--- four stores are one run
-four : (o : List ℕ) (b v0 v1 v2 v3 : ℕ) → set (set (set (set o b v0) (b + 1) v1) (b + 2) v2) (b + 3) v3 ≡ sets o b (v0 ∷ v1 ∷ v2 ∷ v3 ∷ [])
-four o b v0 v1 v2 v3 =
-    let e1 : b + 1 ≡ suc b = omega arith in
-    let e2 : b + 2 ≡ suc (suc b) = omega arith in
-    let e3 : b + 3 ≡ suc (suc (suc b)) = omega arith in
-    rw (e1, e2, e3)
-
-pub four-le : (o : List ℕ) (b x : ℕ)
-    → set (set (set (set o b (x % 256)) (b + 1) (x / 256 % 256)) (b + 2) (x / 65536 % 256)) (b + 3) (x / 16777216) ≡ sets o b (le32 x)
-unfolding le32
-four-le o b x = four o b _ _ _ _
-
-pub length-le32 : (x : ℕ) → length (le32 x) ≡ 4
-unfolding le32
-length-le32 x = refl
-
--- a run that is written in two parts
-pub sets-append : (us vs l : List ℕ) (i : ℕ) → sets l i (us ++ vs) ≡ sets (sets l i us) (i + length us) vs
-sets-append [] vs l i = let e : i + 0 ≡ i = omega arith in rw e
-sets-append (u ∷ us) vs l i = let e : i + suc (length us) ≡ suc i + length us = omega arith in rw e (sets-append us vs (set l i u) (suc i))
+use Rattle.names.specs.Bytes.{le32}
+use Rattle.names.proofs.Storing.{length-le32}
 
 -- a store before a run
 set-sets : (vs l : List ℕ) (i j a : ℕ) → i < j → sets (set l i a) j vs ≡ set (sets l j vs) i a

@@ -8,9 +8,10 @@ use lib.ListN.{length}
 use lib.Seq.{sets, length-sets}
 use lib.Dec.{leb}
 use borrow.Author.Tests.{le-leb, lt-leb}
+use Rattle.names.specs.Bytes.{le32}
 use Rattle.forest.specs.Forest.{Rows, Rows.none, Rows.node, size}
 use Rattle.steps.specs.Joining.{join}
-use Rattle.output.specs.Output.{le32, withRow, put, setEnd, emitRows, Appended, Done}
+use Rattle.output.specs.Output.{withRow, put, setEnd, emitRows, Appended, Done}
 use Rattle.output.proofs.Stores.{words-apart, word-over}
 
 -- what `put` and `setEnd` are, by the test

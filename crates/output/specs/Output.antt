@@ -2,16 +2,13 @@
 use mathlib.Core.Path.{_≡_}
 use mathlib.Core.Bool.{cond}
 use mathlib.Core.List.{List, [], _∷_}
-use Prim.Native.Nat.{ℕ, _+_, _*_, _/_, _%_}
+use Prim.Native.Nat.{ℕ, _+_, _*_}
 use lib.ListN.{length}
 use lib.Seq.{sets}
 use lib.Dec.{leb}
+use Rattle.names.specs.Bytes.{le32}
 use Rattle.forest.specs.Forest.{Rows, Rows.none, Rows.node, size}
 use Rattle.steps.specs.Bindings.{Binding, Binding.bind}
-
--- a word as four bytes, the low byte first
-unfoldable pub le32 : ℕ → List ℕ
-le32 x = x % 256 ∷ x / 256 % 256 ∷ x / 65536 % 256 ∷ x / 16777216 ∷ []
 
 -- the bytes o with row r written: "each four u32: kind, attr, name, end"
 abbrev pub withRow : (o : List ℕ) (r k a n e : ℕ) → List ℕ

@@ -2,25 +2,14 @@
 // whole in the bytes is left out, and the count goes on: over no bytes at all, a walk counts.
 pub mod writer;
 
+use names::words::put_word;
 ghost use mathlib.Core.Path.{_≡_};
 ghost use Prim.Native.Nat.{_+_, _≤_, _<_, _^_};
 ghost use lib.ListN.{length};
-ghost use lib.Seq.{sets};
-ghost use Rattle.output.specs.Output.{le32, setEnd, Appended, Recorded};
+ghost use Rattle.output.specs.Output.{setEnd, Appended, Recorded};
 use writer::finish;
 use writer::new;
 use writer::put;
-
-// Four bytes from `at` on, the low byte first.
-fn put_word(out: &mut [u8], at: usize, x: u32)
-    requires { ⌜ at + 4 ≤ length (now out) ⌝ }
-    ensures { λ _. ⌜ now (out .exit) ≡ sets (now (out .entry)) at (le32 x) ⌝ }
-{
-    out[at] = (x % 256) as u8;
-    out[at + 1] = (x / 256 % 256) as u8;
-    out[at + 2] = (x / 65536 % 256) as u8;
-    out[at + 3] = (x / 16777216) as u8;
-}
 
 // Row `at`, where it lies whole in the bytes; the answer is the next row's number.
 fn append_row(out: &mut [u8], at: usize, kind: u32, attr: u32, name: u32, end: u32) -> usize

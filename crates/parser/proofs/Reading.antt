@@ -9,9 +9,8 @@ use lib.Seq.{sets, length-take-le}
 use lib.Dec.{leb}
 use borrow.Author.Tests.{le-leb, lt-leb}
 use Rattle.names.specs.Laid.{joined, pairsFrom}
-use Rattle.output.specs.Bytes.{bytesOf}
-use Rattle.output.proofs.Stores.{sets-append}
-use Rattle.output.proofs.Placing.{bytes-append, length-bytes}
+use Rattle.names.specs.Bytes.{bytesOf}
+use Rattle.names.proofs.Storing.{sets-append, runs}
 use Rattle.fields.specs.Headers.{rowHeader}
 use Rattle.fields.specs.Fields.{part, fields, lines, rowOf, Next, sameBytes}
 use Rattle.decimal.specs.Decimal.{Wrote}
@@ -20,13 +19,6 @@ use Rattle.fields.specs.declared.Row.the-variants.{Words, Fault}
 use Rattle.parser.specs.declared.Lines.the-variants.{Count, Wrong}
 use Rattle.parser.specs.declared.Names.the-variants.{Past, Missing}
 use Rattle.fields.proofs.Splitting.{At, lines-none, line-next, next-ahead}
-
--- some words, and the words after them
-pub runs : (xs ys o : List ℕ) (i j : ℕ) → i + 4 * length xs ≡ j → sets o i (bytesOf (xs ++ ys)) ≡ sets (sets o i (bytesOf xs)) j (bytesOf ys)
-runs xs ys o i j e =
-    ap (sets o i) (bytes-append xs ys)
-    ∙ sets-append (bytesOf xs) (bytesOf ys) o i
-    ∙ ap (λ (n : ℕ). sets (sets o i (bytesOf xs)) n (bytesOf ys)) (ap (λ (n : ℕ). i + n) (length-bytes xs) ∙ e)
 
 -- Rows.
 pub record Turn (s : List ℕ) (at k : ℕ) (rows₀ rows : List ℕ) (p n : ℕ) : Type 0 where

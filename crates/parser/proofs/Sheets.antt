@@ -8,8 +8,8 @@ use lib.ListN.{length, drop}
 use lib.Seq.{sets}
 use lib.Dec.{leb, eqb}
 use lib.ListN.{getD}
+use Rattle.names.specs.Bytes.{bytesOf}
 use Rattle.steps.specs.Mode.{Switches, switches}
-use Rattle.output.specs.Bytes.{bytesOf}
 use Rattle.fields.specs.Headers.{switchHeader, nameHeader}
 use Rattle.fields.specs.Fields.{split, part, fields, lines, rowOf, Next, sameBytes, switchesOk}
 use Rattle.parser.specs.Parse.{Read, Read.faulty, isRow, addRow, rowsFrom, wordsFrom, namesIn, afterNames, switchesIn, withRows, fromFourth, fromThird, fromSecond, fromFirst, RowsRead, SmallLines, Found, Lost, NamesAre, NamesRead, Lent, Lies, Small, Told}

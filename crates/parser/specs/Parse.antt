@@ -7,8 +7,8 @@ use lib.ListN.{length, drop, getD}
 use lib.Seq.{sets}
 use lib.Dec.{leb, eqb}
 use Rattle.names.specs.Laid.{joined, pairsFrom}
+use Rattle.names.specs.Bytes.{bytesOf}
 use Rattle.steps.specs.Mode.{Switches, switches}
-use Rattle.output.specs.Bytes.{bytesOf}
 use Rattle.fields.specs.Headers.{switchHeader, nameHeader, rowHeader}
 use Rattle.fields.specs.Fields.{lines, fields, rowOf, sameBytes, switchesOk}
 use Rattle.fields.specs.declared.Row.{Row}

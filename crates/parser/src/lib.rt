@@ -12,7 +12,7 @@ use fields::is_switch_header;
 use fields::next_line;
 use fields::row_at;
 use fields::switches_at;
-use store::put_pair;
+use names::words::put_pair;
 use store::put_row;
 ghost use mathlib.Core.Path.{_≡_};
 ghost use Prim.Native.Nat.{ℕ, _+_, _*_, _≤_, _<_, _^_};

@@ -1,7 +1,8 @@
 -- Tables as the sheet has them: a line a row, and what is answered for them. Assumes nothing.
 use mathlib.Core.Path.{_≡_}
 use mathlib.Core.List.{List, [], _∷_}
-use Prim.Native.Nat.{ℕ, _/_, _%_}
+use Prim.Native.Nat.{ℕ}
+use Rattle.names.specs.Bytes.{bytesOf}
 use Rattle.names.specs.Laid.{joined, pairsFrom}
 use Rattle.steps.specs.Mode.{Switches}
 use Rattle.steps.specs.Outcome.{Outcome, Room, outcome}
@@ -14,11 +15,6 @@ pub data Line : Type 0 where
 unfoldable pub sheet : List Line → List ℕ
 sheet [] = []
 sheet (row k a n e ∷ ls) = k ∷ a ∷ n ∷ e ∷ sheet ls
-
--- the bytes of some words, low byte first
-unfoldable pub bytes : List ℕ → List ℕ
-bytes [] = []
-bytes (x ∷ xs) = x % 256 ∷ x / 256 % 256 ∷ x / 65536 % 256 ∷ x / 16777216 ∷ bytes xs
 
 abbrev pub room : (rows bindings : ℕ) → Room
 room rows bindings = record { rows = rows; bindings = bindings }
@@ -34,4 +30,4 @@ pub record Plot : Type 0 where
 -- every plot of a list is answered as it says, at the limits 16,384 and 128
 abbrev pub Held : List Plot → Type 0
 Held [] = Unit {0}
-Held (p ∷ ps) = (outcome 16384 128 (p .chosen) (bytes (sheet (p .table))) (bytes (pairsFrom 0 (p .names))) (joined (p .names)) (p .lent) ≡ p .answer) × Held ps
+Held (p ∷ ps) = (outcome 16384 128 (p .chosen) (bytesOf (sheet (p .table))) (bytesOf (pairsFrom 0 (p .names))) (joined (p .names)) (p .lent) ≡ p .answer) × Held ps

@@ -1,8 +1,8 @@
--- `parser::store::put_pair` meets its contract. Assumes nothing.
-use Rattle.parser.proofs.Storing.{two}
+-- `names::words::put_pair` meets its contract. Assumes nothing.
+use Rattle.names.proofs.Storing.{two}
 use borrow.Author.Needs.{needs}
-use Rattle.parser.proofs.store.put_pair.Statement.{statement}
-use Rattle.parser.proofs.store.put_pair.Tie as tie
+use Rattle.names.proofs.words.put_pair.Statement.{statement}
+use Rattle.names.proofs.words.put_pair.Tie as tie
 
 mul-at : tie.Need-mul-at
 mul-at c = search needs

@@ -1,10 +1,10 @@
--- `parser::store::put_word` meets its contract. Assumes nothing.
+-- `names::words::put_word` meets its contract. Assumes nothing.
 use borrow.Author.Needs.{needs}
 use native.Mathlib.Omega.{arith}
 use lib.ListN.{length-set}
-use Rattle.output.proofs.Stores.{four-le}
-use Rattle.parser.proofs.store.put_word.Statement.{statement}
-use Rattle.parser.proofs.store.put_word.Tie as tie
+use Rattle.names.proofs.Storing.{four-le}
+use Rattle.names.proofs.words.put_word.Statement.{statement}
+use Rattle.names.proofs.words.put_word.Tie as tie
 
 cast-out : tie.Need-cast-out
 cast-out c = search needs
