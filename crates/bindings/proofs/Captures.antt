@@ -11,10 +11,11 @@ use lib.Dec.{eqb, ltb}
 use lib.ListN.{length, drop, getD, set, length-set, length-append}
 use lib.Seq.{getD-set-same, getD-set-other, drop-append-le, drop-length}
 use Rattle.steps.specs.Bindings.{Binding, Binding.bind}
-use Rattle.bindings.specs.Search.{firstWhere, lastWhere, captureOf, isAccessor, isParam, ofClass, noteCapture}
+use Rattle.buckets.specs.Search.{firstWhere}
+use Rattle.bindings.specs.Search.{captureOf, isAccessor, isParam, ofClass, noteCapture}
 use Rattle.bindings.specs.Store.{captureTable, bindAt, bindsFrom, binds, firstTable, lastTable, Bare, Store, pushed, captured, chained}
 use Rattle.bindings.specs.Post.{Kept, Asked}
-use Rattle.bindings.proofs.Searches.{first-other, last-other, first-new, first-stays, last-new, none-alike, last-in, chain-end}
+use Rattle.buckets.proofs.Searches.{first-other}
 use Rattle.bindings.proofs.Arrays.{binds-length, binds-at, same-binds, pushed-long, pushed-later, pushed-binds, pushed-before, pushed-here}
 use Rattle.bindings.proofs.Storing.{bare-snoc, drop-snoc, drop-none, capture-class, capture-other, capture-frame, capture-same, first-kept, last-kept, first-set, last-set, behind, old-bind, new-bind, le-cases}
 

@@ -10,10 +10,11 @@ use lib.Dec.{eqb}
 use lib.ListN.{length, drop, getD, set, length-set, length-drop}
 use lib.Seq.{getD-set-same, getD-set-other}
 use Rattle.steps.specs.Bindings.{Binding, Binding.bind}
-use Rattle.bindings.specs.Search.{firstWhere, lastWhere, captureOf, isAccessor, isParam, ofClass}
+use Rattle.buckets.specs.Search.{firstWhere, lastWhere}
+use Rattle.bindings.specs.Search.{captureOf, isAccessor, isParam, ofClass}
 use Rattle.bindings.specs.Store.{bindAt, bindsFrom, binds, firstTable, lastTable, Bare, Store, pushed, chained}
 use Rattle.bindings.specs.Post.{Kept}
-use Rattle.bindings.proofs.Searches.{first-other, last-other, first-new, first-stays, last-new, none-alike, last-in, last-holds, chain-end}
+use Rattle.buckets.proofs.Searches.{first-other, first-new, first-stays, none-alike, last-in, last-holds, chain-end}
 use Rattle.bindings.proofs.Arrays.{binds-length, binds-at, same-binds, pushed-long, pushed-later, pushed-binds}
 use Rattle.bindings.proofs.Storing.{first-range, last-range, bare-snoc, drop-none, first-kept, last-kept, first-set, last-set, behind, old-bind, new-bind, le-cases}
 

@@ -11,10 +11,11 @@ use lib.Dec.{eqb}
 use lib.ListN.{length, drop, getD, length-append, length-drop, List·getD-append}
 use lib.Seq.{drop-cons, drop-drop, drop-append-le, getD-drop}
 use Rattle.steps.specs.Bindings.{Binding, Binding.bind, paramsOf}
-use Rattle.bindings.specs.Search.{firstWhere, isAccessor, isParam, ofClass, oneParam, paramsFor}
+use Rattle.buckets.specs.Search.{firstWhere}
+use Rattle.bindings.specs.Search.{isAccessor, isParam, ofClass, oneParam, paramsFor}
 use Rattle.bindings.specs.Store.{bindAt, binds, Store}
 use Rattle.bindings.specs.Post.{Kept, Asked, Room}
-use Rattle.bindings.proofs.Searches.{first-low, first-high}
+use Rattle.buckets.proofs.Searches.{first-low, first-high, first-holds}
 use Rattle.bindings.proofs.Arrays.{binds-length, binds-at}
 
 -- what is left from the accessor n on, of a list counted from c
@@ -93,16 +94,6 @@ pub record Closing (M₀ : List ℕ) (cap count₀ f : ℕ) (M : List ℕ) (coun
   pub rest : added ++ restAt f 1 (binds M₀ cap count₀) b ≡ paramsOf f (binds M₀ cap count₀)
   pub low : b ≤ count₀
   pub class : eqb b 0 ≡ false → ofClass false f (getD (binds M₀ cap count₀) (b - 1) (bind 0 0 0)) ≡ true
-
--- what is found first is such a binding
-holds-step : (p : Binding → Bool) (c m : ℕ) (b : Binding) (bs : List Binding) (d : Binding) (x : Bool) → p b ≡ x → (eqb m 0 ≡ false → (c + 1 ≤ m) × (p (getD bs (m - (c + 1)) d) ≡ true)) → eqb (cond x c m) 0 ≡ false → p (getD (b ∷ bs) (cond x c m - c) d) ≡ true
-holds-step p c m b bs d true q h e = let z : c - c ≡ 0 = omega arith in rw z q
-holds-step p c m b bs d false q h e = let k = h e in let s : m - c ≡ suc (m - (c + 1)) = omega arith in rw s (k .1)
-
-pub first-holds : (p : Binding → Bool) (c : ℕ) (bs : List Binding) (d : Binding) → eqb (firstWhere p c bs) 0 ≡ false → p (getD bs (firstWhere p c bs - c) d) ≡ true
-unfolding firstWhere
-first-holds p c [] d e = absurd (let z : _≡_ {A = ℕ} 0 1 = cc in omega arith)
-first-holds p c (b ∷ bs) d e = holds-step p c (firstWhere p (c + 1) bs) b bs d (p b) refl (λ q. (first-low p (c + 1) bs q, first-holds p (c + 1) bs d q)) e
 
 -- the same rest, counted from the front
 rest-front : (f b n : ℕ) (bs : List Binding) → (eqb n 0 ≡ false → b + 1 ≤ n) → restAt f (b + 1) (drop b bs) n ≡ restAt f 1 bs n

@@ -1,23 +1,24 @@
 -- The buckets of accessors: what keeps them, and an accessor more. Assumes nothing.
 use mathlib.Core.Path.{_≡_, refl, ap, sym, subst, _∙_}
 use mathlib.Core.List.{List, [], _∷_, _++_}
-use Prim.Native.Nat.{ℕ, zero, suc, _+_, _*_, _-_, _<_, _≤_}
-use mathlib.Core.Logic.{⊎-elim}
-use mathlib.Core.Bool.{Bool, true, false, cond, _&&_, _||_, true≢false}
+use Prim.Native.Nat.{ℕ, _+_, _*_, _<_, _≤_}
+use mathlib.Core.Bool.{Bool, true, false, cond, _&&_, _||_}
 use native.Mathlib.Omega.{arith}
-use borrow.Author.Tests.{eqb-true, eqb-false, ne-eqb, eq-eqb, ltb-true, ltb-false}
-use lib.Dec.{eqb, ltb}
-use lib.ListN.{length, take, drop, getD, set, length-set, length-drop, length-append, List·getD-append}
-use lib.Seq.{getD-set-same, getD-set-other, getD-drop, drop-set-lt, drop-set-add, take-append-le, take-append-seam}
+use borrow.Author.Tests.{eqb-true, ne-eqb, eq-eqb}
+use lib.Dec.{eqb}
+use lib.ListN.{length, drop, getD, set, length-set, length-drop}
+use lib.Seq.{getD-set-same, getD-set-other, getD-drop, drop-set-lt, drop-set-add}
 use Rattle.steps.specs.Bindings.{Binding, Binding.bind, paramsOf, closed}
 use Rattle.names.proofs.Bools.{and-right}
-use Rattle.bindings.specs.Search.{lastWhere, firstWhere, captureOf, isAccessor, ofClass, noteCapture, oneParam}
+use Rattle.buckets.specs.Search.{lastWhere, firstWhere}
+use Rattle.bindings.specs.Search.{captureOf, isAccessor, ofClass, noteCapture, oneParam}
 use Rattle.bindings.specs.Store.{bindAt, binds, Bare, Store, firstTable, lastTable, linkTable, pushed, chained}
 use Rattle.bindings.specs.Post.{Kept}
 use Rattle.bindings.specs.Filed.{behind, bucketOf, inBucket, Filed}
-use Rattle.bindings.proofs.Searches.{last-other, last-new}
+use Rattle.buckets.proofs.Filing.{Outside, filed-none}
+use Rattle.buckets.proofs.Filing as buckets
 use Rattle.bindings.proofs.Arrays.{binds-length, same-binds}
-use Rattle.bindings.proofs.Storing.{first-range, last-range, at-end, le-cases}
+use Rattle.bindings.proofs.Storing.{first-range, last-range}
 use Rattle.bindings.proofs.Closing.{AllParams, all-append, one-params}
 
 -- what is written into the ten tables leaves what stands behind them
@@ -51,45 +52,15 @@ pub filed-before : (M : List ℕ) (cap h b v j : ℕ) → j < 10 * cap → getD 
 filed-before M cap h b v j l =
     getD-set-other (set M (10 * cap + (cap + b)) v) (10 * cap + h) j b 0 (λ q. omega arith) ∙ getD-set-other M (10 * cap + (cap + b)) j v 0 (λ q. omega arith)
 
-module _ (names text : List ℕ) (cap h : ℕ) where
-  abbrev q : Binding → Bool
-  q = inBucket names text cap h
+-- bindings that are no accessors are in no bucket
+outside : (names text : List ℕ) (cap : ℕ) (ps : List Binding) → AllParams ps → Outside (inBucket names text cap) ps
+unfolding inBucket
+outside names text cap [] a = tt
+outside names text cap (bind u x f ∷ ps) a = ((λ h. rw (a .0)), outside names text cap ps (a .1))
 
-  other-use : (u x f : ℕ) → isAccessor u ≡ false → q (bind u x f) ≡ false
-  unfolding inBucket
-  other-use u x f e = rw e
-
-  none-last : (c : ℕ) (ps : List Binding) → AllParams ps → lastWhere q c ps ≡ 0
-  unfolding lastWhere
-  none-last c [] a = refl
-  none-last c (bind u x f ∷ ps) a = rw (none-last (c + 1) ps (a .1), other-use u x f (a .0))
-
-  last-more : (c : ℕ) (bs ps : List Binding) → AllParams ps → lastWhere q c (bs ++ ps) ≡ lastWhere q c bs
-  unfolding lastWhere
-  last-more c [] ps a = none-last c ps a
-  last-more c (b ∷ bs) ps a = ap (λ (m : ℕ). cond (eqb m 0) (cond (q b) c 0) m) (last-more (c + 1) bs ps a)
-
-  -- past the old bindings there is no accessor
-  none-past : (bs ps : List Binding) (j : ℕ) → AllParams ps → length bs ≤ j → q (getD (bs ++ ps) j (bind 0 0 0)) ≡ false
-  none-past [] [] j a l = other-use 0 0 0 refl
-  none-past [] (bind u x f ∷ ps) zero a l = other-use u x f (a .0)
-  none-past [] (bind u x f ∷ ps) (suc j) a l = none-past [] ps j (a .1) (omega arith)
-  none-past (b ∷ bs) ps zero a l = absurd (omega arith)
-  none-past (b ∷ bs) ps (suc j) a l = none-past bs ps j a (omega arith)
-
--- bindings that are no accessors change no bucket
+-- so they change none
 pub filed-more : {names text I : List ℕ} {cap : ℕ} {bs : List Binding} (ps : List Binding) → AllParams ps → Filed names text I cap bs → Filed names text I cap (bs ++ ps)
-filed-more {names} {text} {I} {cap} {bs} ps a F = record {
-  lasts = λ h l. F .lasts h l ∙ sym (last-more names text cap h 1 bs ps a);
-  befores = λ h b p l e. go h b p e (ltb (length bs) b) refl;
-}
-  where
-    go : (h b : ℕ) → 0 < b → inBucket names text cap h (getD (bs ++ ps) (b - 1) (bind 0 0 0)) ≡ true → (t : Bool) → ltb (length bs) b ≡ t → getD I (cap + b) 0 ≡ lastWhere (inBucket names text cap h) 1 (take (b - 1) (bs ++ ps))
-    go h b p e true z = let l = ltb-true (length bs) b z in absurd (true≢false (sym e ∙ none-past names text cap h bs ps (b - 1) a (omega arith)))
-    go h b p e false z =
-        let l = ltb-false (length bs) b z in
-        F .befores h b p l (sym (ap (inBucket names text cap h) (List·getD-append bs ps (bind 0 0 0) (b - 1) (omega arith))) ∙ e)
-        ∙ sym (ap (lastWhere (inBucket names text cap h) 1) (take-append-le (b - 1) bs ps (omega arith)))
+filed-more {names} {text} {I} {cap} ps a F = record { tables = buckets.filed-more (F .tables) ps (outside names text cap ps a) }
 
 -- a capture is no accessor
 low-use : (u : ℕ) → u ≤ 2 → isAccessor u ≡ false
@@ -141,51 +112,23 @@ module _ {names text I : List ℕ} {cap : ℕ} {bs : List Binding} (F : Filed na
   unfolding inBucket
   its g e = at ∙ eqb-true (bucketOf names text cap u f x) g (and-right (isAccessor u) (eqb (bucketOf names text cap u f x) g) e)
 
-  others : (g : ℕ) → (h ≡ g → ⊥) → inBucket names text cap g r ≡ false
-  others g n = go (inBucket names text cap g r) refl
-    where
-      go : (t : Bool) → inBucket names text cap g r ≡ t → t ≡ false
-      go true z = absurd (n (its g z))
-      go false z = refl
+  others : (g : ℕ) → g < cap → (h ≡ g → ⊥) → getD (set I₁ h b) g 0 ≡ getD I g 0
+  others g l n = getD-set-other I₁ h g b 0 (λ e. n (sym e)) ∙ getD-set-other I (cap + b) g v 0 (λ e. omega arith)
 
-  new-last : (g : ℕ) → g < cap → (t : Bool) → eqb h g ≡ t → getD (set I₁ h b) g 0 ≡ lastWhere (inBucket names text cap g) 1 (bs ++ (r ∷ []))
-  new-last g l true z =
-      let e : h ≡ g = eqb-true h g z in
-      let n : 1 + length bs ≡ b = omega (arith, count) in
-      subst (λ (k : ℕ). getD (set I₁ h b) k 0 ≡ lastWhere (inBucket names text cap k) 1 (bs ++ (r ∷ []))) e
-      (getD-set-same I₁ h b 0 (omega (arith, long₁)) ∙ sym (last-new (inBucket names text cap h) 1 bs r (omega arith) mine ∙ n))
-  new-last g l false z =
-      let n : h ≡ g → ⊥ = eqb-false h g z in
-      getD-set-other I₁ h g b 0 (λ e. n (sym e)) ∙ getD-set-other I (cap + b) g v 0 (λ e. omega arith) ∙ F .lasts g l
-      ∙ sym (last-other (inBucket names text cap g) 1 bs r (omega arith) (others g n))
+  link : getD (set I₁ h b) (cap + b) 0 ≡ getD I h 0
+  link = getD-set-other I₁ h (cap + b) b 0 (λ z. omega arith) ∙ getD-set-same I (cap + b) v 0 (omega (arith, long))
 
-  old-before : (g j : ℕ) → 0 < j → j ≤ length bs → inBucket names text cap g (getD (bs ++ (r ∷ [])) (j - 1) (bind 0 0 0)) ≡ true → getD (set I₁ h b) (cap + j) 0 ≡ lastWhere (inBucket names text cap g) 1 (take (j - 1) (bs ++ (r ∷ [])))
-  old-before g j p l e =
-      getD-set-other I₁ h (cap + j) b 0 (λ z. omega arith) ∙ getD-set-other I (cap + b) (cap + j) v 0 (λ z. omega (arith, count))
-      ∙ F .befores g j p l (sym (ap (inBucket names text cap g) (List·getD-append bs (r ∷ []) (bind 0 0 0) (j - 1) (omega arith))) ∙ e)
-      ∙ sym (ap (lastWhere (inBucket names text cap g) 1) (take-append-le (j - 1) bs (r ∷ []) (omega arith)))
-
-  new-before : (g j : ℕ) → j ≡ length bs + 1 → inBucket names text cap g (getD (bs ++ (r ∷ [])) (j - 1) (bind 0 0 0)) ≡ true → getD (set I₁ h b) (cap + j) 0 ≡ lastWhere (inBucket names text cap g) 1 (take (j - 1) (bs ++ (r ∷ [])))
-  new-before g j q e =
-      let s : j - 1 ≡ length bs = omega arith in
-      let y : j ≡ b = q ∙ count in
-      let w : h ≡ g = its g (sym (ap (inBucket names text cap g) (ap (λ (m : ℕ). getD (bs ++ (r ∷ [])) m (bind 0 0 0)) s ∙ at-end bs r (length bs) refl)) ∙ e) in
-      ap (λ (m : ℕ). getD (set I₁ h b) (cap + m) 0) y
-      ∙ getD-set-other I₁ h (cap + b) b 0 (λ z. omega arith) ∙ getD-set-same I (cap + b) v 0 (omega (arith, long))
-      ∙ F .lasts h hl
-      ∙ ap (λ (m : ℕ). lastWhere (inBucket names text cap m) 1 bs) w
-      ∙ sym (ap (lastWhere (inBucket names text cap g) 1) (ap (λ (m : ℕ). take m (bs ++ (r ∷ []))) s ∙ take-append-seam bs (r ∷ [])))
+  old : (j : ℕ) → j ≤ length bs → getD (set I₁ h b) (cap + j) 0 ≡ getD I (cap + j) 0
+  old j l = getD-set-other I₁ h (cap + j) b 0 (λ z. omega arith) ∙ getD-set-other I (cap + b) (cap + j) v 0 (λ z. omega (arith, count))
 
   pub filed-new : Filed names text (set I₁ h b) cap (bs ++ (r ∷ []))
   filed-new = record {
-    lasts = λ g l. new-last g l (eqb h g) refl;
-    befores = λ g j p l e. ⊎-elim (λ o. old-before g j p o e) (λ q. new-before g j q e) (le-cases j (length bs) (omega (arith, l, length-append bs (r ∷ []))));
+    tables = buckets.filed-new (F .tables) r h b count hl mine its (λ g. getD (set I₁ h b) g 0) (λ j. getD (set I₁ h b) (cap + j) 0) (getD-set-same I₁ h b 0 (omega (arith, long₁))) others link old;
   }
 
 -- tables of zeros hold no accessor
 pub none-filed : (names text I : List ℕ) (cap : ℕ) → ((i : ℕ) → getD I i 0 ≡ 0) → Filed names text I cap []
-unfolding lastWhere
-none-filed names text I cap z = record { lasts = λ h l. z h; befores = λ h b p l e. absurd (omega arith) }
+none-filed names text I cap z = record { tables = filed-none (λ h l. z h) }
 
 -- the store says nothing of what stands behind its ten tables
 module _ (M M′ : List ℕ) (cap count : ℕ) (S : Store M cap count) (long : length M′ ≡ 12 * cap) (same : (j : ℕ) → j < 10 * cap → getD M′ j 0 ≡ getD M j 0) where

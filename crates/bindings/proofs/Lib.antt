@@ -1,4 +1,3 @@
-pub mod Searches
 pub mod Arrays
 pub mod Storing
 pub mod Captures

@@ -7,12 +7,18 @@ use native.Mathlib.Omega.{arith}
 use borrow.Author.Tests.{eqb-true}
 use lib.Dec.{eqb}
 use lib.ListN.{length, getD}
-use Rattle.steps.specs.Bindings.{Binding, Binding.bind, is, number, note}
+use Rattle.steps.specs.Bindings.{Binding, Binding.bind, is, numberFrom, number, note}
 use Rattle.steps.specs.Naming.{Names, sameAs}
 use Rattle.steps.proofs.Acceptance.{same-zero}
-use Rattle.bindings.specs.Search.{firstWhere, lastWhere, captureOf, noteCapture}
+use Rattle.buckets.specs.Search.{firstWhere, lastWhere}
+use Rattle.bindings.specs.Search.{captureOf, noteCapture}
 use Rattle.bindings.specs.Store.{binds, bindsFrom, Bare, Store, firstTable, lastTable}
-use Rattle.bindings.proofs.Searches.{number-where}
+
+-- a number is where the first such binding stands
+pub number-where : (N : Names) (u f x c : ℕ) (bs : List Binding) → numberFrom N u f x c bs ≡ firstWhere (is N u f x) c bs
+unfolding numberFrom firstWhere
+number-where N u f x c [] = refl
+number-where N u f x c (b ∷ bs) = ap (λ (m : ℕ). cond (is N u f x b) c m) (number-where N u f x (c + 1) bs)
 
 module _ (N : Names) (u f : ℕ) (low : u ≤ 2) where
   -- a capture has no property, so it is told by its use and frame alone

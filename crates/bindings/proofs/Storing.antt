@@ -11,9 +11,10 @@ use lib.Dec.{eqb, ltb}
 use lib.ListN.{length, drop, getD, set, length-set, List·getD-append}
 use lib.Seq.{getD-set-same, getD-set-other, drop-append-le, drop-length}
 use Rattle.steps.specs.Bindings.{Binding, Binding.bind}
-use Rattle.bindings.specs.Search.{firstWhere, lastWhere, captureOf, isAccessor, isParam, ofClass}
+use Rattle.buckets.specs.Search.{firstWhere, lastWhere}
+use Rattle.bindings.specs.Search.{captureOf, isAccessor, isParam, ofClass}
 use Rattle.bindings.specs.Store.{bindAt, bindsFrom, binds, firstTable, lastTable, Bare, Store, pushed, captured, chained}
-use Rattle.bindings.proofs.Searches.{first-other, last-other, first-new, first-stays, last-new, none-alike, last-in, chain-end}
+use Rattle.buckets.proofs.Searches.{first-other, last-other, first-new, last-new}
 use Rattle.bindings.proofs.Arrays.{binds-length, binds-at, same-binds, pushed-long, pushed-later, pushed-binds, pushed-before, pushed-here}
 
 -- where the tables of firsts and of lasts stand in the array
@@ -46,7 +47,7 @@ drop-none M cap count r =
     go (b ∷ bs) (suc n) q = let e : suc n + 1 ≡ suc (n + 1) = omega arith in ap (λ (k : ℕ). drop k ((b ∷ bs) ++ (r ∷ []))) e ∙ go bs n (omega arith)
 
 -- the one at the end
-pub at-end : (xs : List Binding) (r : Binding) (n : ℕ) → length xs ≡ n → getD (xs ++ (r ∷ [])) n (bind 0 0 0) ≡ r
+at-end : (xs : List Binding) (r : Binding) (n : ℕ) → length xs ≡ n → getD (xs ++ (r ∷ [])) n (bind 0 0 0) ≡ r
 at-end [] r zero h = refl
 at-end [] r (suc n) h = absurd (omega arith)
 at-end (y ∷ ys) r zero h = absurd (omega arith)

@@ -1,14 +1,14 @@
 -- The accessors by a number of their use, frame and property's bytes, so that one is found without a search of its frame: two tables behind the ten of Store. Assumes nothing.
-use mathlib.Core.Path.{_≡_}
 use mathlib.Core.List.{List}
-use Prim.Native.Nat.{ℕ, _+_, _*_, _-_, _%_, _≤_, _<_}
-use mathlib.Core.Bool.{Bool, true, _&&_}
+use Prim.Native.Nat.{ℕ, _+_, _*_, _%_}
+use mathlib.Core.Bool.{Bool, _&&_}
 use lib.Dec.{eqb}
-use lib.ListN.{getD, length, take, drop}
+use lib.ListN.{getD, drop}
 use Rattle.names.specs.Names.{bytesOf}
 use Rattle.spelling.specs.Hash.{hashOf}
 use Rattle.steps.specs.Bindings.{Binding, Binding.bind}
-use Rattle.bindings.specs.Search.{lastWhere, isAccessor}
+use Rattle.buckets.specs.Filed as buckets
+use Rattle.bindings.specs.Search.{isAccessor}
 
 -- what stands behind the ten tables
 abbrev pub behind : (cap : ℕ) → List ℕ → List ℕ
@@ -24,5 +24,4 @@ inBucket names text cap h (bind u x f) = isAccessor u && eqb (bucketOf names tex
 
 -- the two tables I are right for the bindings bs: by bucket its last accessor, and by accessor the one before it in its bucket
 pub record Filed (names text I : List ℕ) (cap : ℕ) (bs : List Binding) : Type 0 where
-  pub lasts : (h : ℕ) → h < cap → getD I h 0 ≡ lastWhere (inBucket names text cap h) 1 bs
-  pub befores : (h b : ℕ) → 0 < b → b ≤ length bs → inBucket names text cap h (getD bs (b - 1) (bind 0 0 0)) ≡ true → getD I (cap + b) 0 ≡ lastWhere (inBucket names text cap h) 1 (take (b - 1) bs)
+  pub tables : buckets.Filed (inBucket names text cap) (bind 0 0 0) (λ h. getD I h 0) (λ b. getD I (cap + b) 0) cap bs

@@ -1,18 +1,10 @@
--- The first and the last of some bindings of which a test holds, by their numbers. Assumes nothing.
+-- What is searched for among the bindings: captures, accessors and their parameters, by tests. Assumes nothing.
 use mathlib.Core.List.{List, [], _∷_, _++_}
-use Prim.Native.Nat.{ℕ, _+_}
+use Prim.Native.Nat.{ℕ}
 use mathlib.Core.Bool.{Bool, cond, _&&_, _||_}
 use lib.Dec.{eqb}
+use Rattle.buckets.specs.Search.{firstWhere}
 use Rattle.steps.specs.Bindings.{Binding, Binding.bind}
-
--- numbers are counted from c; 0: none
-unfoldable pub firstWhere : (Binding → Bool) → ℕ → List Binding → ℕ
-firstWhere p c [] = 0
-firstWhere p c (b ∷ bs) = cond (p b) c (firstWhere p (c + 1) bs)
-
-unfoldable pub lastWhere : (Binding → Bool) → ℕ → List Binding → ℕ
-lastWhere p c [] = 0
-lastWhere p c (b ∷ bs) = cond (eqb (lastWhere p (c + 1) bs) 0) (cond (p b) c 0) (lastWhere p (c + 1) bs)
 
 -- a capture of use u (1 this, 2 arguments) and frame f
 unfoldable pub captureOf : (u f : ℕ) → Binding → Bool

@@ -7,7 +7,8 @@ use mathlib.Core.Bool.{Bool, true, false, cond}
 use lib.ListN.{getD, length, drop, set}
 use lib.Dec.{eqb}
 use Rattle.steps.specs.Bindings.{Binding, Binding.bind}
-use Rattle.bindings.specs.Search.{firstWhere, lastWhere, captureOf, isAccessor, isParam, ofClass}
+use Rattle.buckets.specs.Search.{firstWhere, lastWhere}
+use Rattle.bindings.specs.Search.{captureOf, isAccessor, isParam, ofClass}
 
 abbrev pub useAt : List ℕ → (cap b : ℕ) → ℕ
 useAt M cap b = getD M b 0

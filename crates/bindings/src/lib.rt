@@ -189,16 +189,6 @@ fn bucket(names: &[u8], text: &[u8], cap: usize, u: usize, f: usize, x: usize) -
     (number + 613 * f + u) % cap
 }
 
-// b where it is taken, else what was found before.
-fn pick(taken: bool, b: usize, found: usize) -> usize
-    ensures { λ r. ⌜ r ≡ cond taken b found ⌝ }
-{
-    if taken {
-        return b;
-    }
-    found
-}
-
 // Puts accessor b into bucket h.
 fn file(made: &mut [u32], cap: usize, h: usize, b: usize)
     requires { ⌜ (length (now made) ≡ 12 * cap) × ((b < cap) × ((h < cap) × (cap ≤ 16384))) ⌝ }

@@ -9,11 +9,11 @@ use lib.Dec.{eqb}
 use lib.ListN.{length, drop, getD, length-drop}
 use lib.Seq.{drop-cons, drop-drop, getD-drop}
 use Rattle.steps.specs.Bindings.{Binding, Binding.bind}
-use Rattle.bindings.specs.Search.{firstWhere, ofClass}
+use Rattle.buckets.specs.Search.{firstWhere}
+use Rattle.bindings.specs.Search.{ofClass}
 use Rattle.bindings.specs.Store.{bindAt, binds, firstTable, Store}
-use Rattle.bindings.proofs.Searches.{first-low, first-high}
+use Rattle.buckets.proofs.Searches.{first-low, first-high, first-holds}
 use Rattle.bindings.proofs.Arrays.{binds-length, binds-at}
-use Rattle.bindings.proofs.Closing.{first-holds}
 
 -- b is the number of a binding of that class and frame, or 0
 pub record Link (M : List ℕ) (cap count : ℕ) (param : Bool) (f b : ℕ) : Type 0 where
