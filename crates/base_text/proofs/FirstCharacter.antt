@@ -165,7 +165,7 @@ pad (x ∷ y ∷ []) w h l k = sym (take-append-le w (x ∷ y ∷ []) (0 ∷ 0 �
 pad (x ∷ y ∷ z ∷ []) w h l k = sym (take-append-le w (x ∷ y ∷ z ∷ []) (0 ∷ []) l)
 pad (x ∷ y ∷ z ∷ u ∷ rest) w h l k = take-append-le w (x ∷ y ∷ z ∷ u ∷ []) rest k
 
-some-width : (s : List ℕ) → utf8 s ≡ true → 0 < length s → firstWidth s ≡ 0 → ⊥
+pub some-width : (s : List ℕ) → utf8 s ≡ true → 0 < length s → firstWidth s ≡ 0 → ⊥
 unfolding utf8 utf8From
 some-width [] u h z = not-suc-le-zero h
 some-width (x ∷ r) u h z = let f : false ≡ true = rw (lt-ltb 0 (length (x ∷ r)) h, eq-eqb (firstWidth (x ∷ r)) 0 z) at u in let o : _≡_ {A = ℕ} 0 1 = cc in omega arith

@@ -3,3 +3,4 @@ pub mod Pieces
 pub mod Checking
 pub mod Telling
 pub mod Meaning
+pub mod Short

@@ -10,17 +10,18 @@ use lib.Dec.{eqb}
 use lib.ListN.{length, take, drop, length-append, length-drop}
 use lib.Seq.{paste, length-take-le, take-all}
 use Rattle.names.specs.Words.{namesIn}
-use Rattle.names.specs.Names.{bytesOf, firstBadName}
-use Rattle.names.specs.declared.Found.the-variants.{At, Nothing}
+use Rattle.names.specs.Names.{bytesOf}
 use Rattle.letters.specs.Characters.{firstCode}
-use Rattle.letters.specs.Letters.{known, Capitals}
+use Rattle.letters.specs.Letters.{known}
 use Rattle.base_text.specs.Bindings.{roleOf, propertyNumber, propertyOf, bindingOk}
 use Rattle.base_text.specs.Bases.{bases, basePart, baseOf, withProperty, textFor, HeadOf}
-use Rattle.base_text.specs.Refusals.{sizesOk, namedAnswer, answerFor, baseText, spelled, Told}
+use Rattle.base_text.specs.Refusals.{frontOf, letterOf, faultOf, baseText, textAnswer, spelled, Told, namedAnswer, answerFor}
 use Rattle.base_text.specs.declared.Property.{Property}
 use Rattle.base_text.specs.declared.Property.the-variants.{Named, Absent}
+use Rattle.base_text.specs.declared.Refusal.{Refusal}
+use Rattle.base_text.specs.declared.Refusal.the-variants.{BadBinding, UnknownLetter, NoRoom}
+use Rattle.base_text.specs.declared.Tested.{Tested}
 use Rattle.base_text.specs.declared.Spelling.{Spelling}
-use Rattle.base_text.specs.declared.Spelling.the-variants.{Written, Malformed, BadName, BadBinding, UnknownLetter, NoRoom}
 
 unheard : (k : Bool) (n : ℕ) → eqb n 0 ≡ not k → n ≡ 0 → k ≡ false
 unheard k n e z = not-true k (sym e ∙ eq-eqb n 0 z)
@@ -33,8 +34,8 @@ all-of n w out q = let h : length w ≤ n = omega arith in ap (λ (l : List ℕ)
 
 -- a property, by its first character
 module _ (number : ℕ) (base s out : List ℕ) (width count x y : ℕ) (head : HeadOf s width count x y) where
-  pub letter : count ≡ 0 → Told (UnknownLetter number) (namedAnswer number base s (length out)) (withProperty base s) out out
-  unfolding namedAnswer
+  pub letter : count ≡ 0 → Told (Spelling.Refused (UnknownLetter number)) (namedAnswer number base s (length out)) (withProperty base s) out out
+  unfolding letterOf
   letter z = record { right = rw (unheard (known (firstCode s)) count (head .capitals .heard) z); bytes = refl }
 
   text : withProperty base s ≡ base ++ (take count (x ∷ y ∷ []) ++ drop width s)
@@ -46,14 +47,14 @@ module _ (number : ℕ) (base s out : List ℕ) (width count x y : ℕ) (head : 
       let q : length (take count (x ∷ y ∷ [])) ≡ count = length-take-le count (x ∷ y ∷ []) (head .capitals .most) in
       ap length text ∙ simp (length-append, length-drop, q) (omega arith)
 
-  pub room : (count ≡ 0 → ⊥) → length out < length base + count + (length s - width) → Told NoRoom (namedAnswer number base s (length out)) (withProperty base s) out out
-  unfolding namedAnswer
+  pub room : (count ≡ 0 → ⊥) → length out < length base + count + (length s - width) → Told (Spelling.Refused NoRoom) (namedAnswer number base s (length out)) (withProperty base s) out out
+  unfolding letterOf
   room z l = record { right = rw (is-heard (known (firstCode s)) count (head .capitals .heard) z, size, lt-ltb _ _ l); bytes = refl }
 
   pub written : (b : ℕ) (out′ : List ℕ) → length base ≡ b → (count ≡ 0 → ⊥) → b + count + (length s - width) ≤ length out
       → out′ ≡ (base ++ (take count (x ∷ y ∷ []) ++ drop width s)) ++ drop (b + count + (length s - width)) out
-      → Told (Written (b + count + (length s - width))) (namedAnswer number base s (length out)) (withProperty base s) out out′
-  unfolding namedAnswer
+      → Told (Spelling.Written (b + count + (length s - width))) (namedAnswer number base s (length out)) (withProperty base s) out out′
+  unfolding letterOf
   written b out′ q z l e =
       record {
         right = rw (is-heard (known (firstCode s)) count (head .capitals .heard) z, size, q, le-ltb _ _ l);
@@ -64,11 +65,11 @@ module _ (number : ℕ) (base s out : List ℕ) (width count x y : ℕ) (head : 
 
 -- the bare base, and a property by its name
 module _ (number : ℕ) (base names text out : List ℕ) (p : Property) where
-  pub bare-room : (count : ℕ) → p ≡ Absent → length base ≡ count → length out < count → Told NoRoom (answerFor number base names text p (length out)) (textFor base names text p) out out
+  pub bare-room : (count : ℕ) → p ≡ Absent → length base ≡ count → length out < count → Told (Spelling.Refused NoRoom) (answerFor number base names text p (length out)) (textFor base names text p) out out
   bare-room count e q l = record { right = rw (e, q, lt-ltb _ _ l); bytes = refl }
 
   pub bare : (from count : ℕ) (out′ : List ℕ) → p ≡ Absent → length base ≡ count → basePart from count ≡ base → count ≤ length out → out′ ≡ paste out 0 (drop from bases) count
-      → Told (Written count) (answerFor number base names text p (length out)) (textFor base names text p) out out′
+      → Told (Spelling.Written count) (answerFor number base names text p (length out)) (textFor base names text p) out out′
   bare from count out′ e q b l w =
       record {
         right = rw (e, q, le-ltb _ _ l);
@@ -79,25 +80,23 @@ module _ (number : ℕ) (base names text out : List ℕ) (p : Property) where
       → Told r (answerFor number base names text p (length out)) (textFor base names text p) out out′
   named k r part out′ e b h = record { right = h .right ∙ rw (e, b); bytes = h .bytes ∙ rw (e, b) }
 
--- the whole answer, in the order of the tests
+-- the answer of one binding, and the whole answer, in the order of the tests
 module _ (number : ℕ) (bindings names text out : List ℕ) where
-  pub told-sizes : sizesOk (length bindings) (length names) (length text) ≡ false → Told Malformed (spelled number bindings names text (length out)) (baseText number bindings names text) out out
-  unfolding spelled
-  told-sizes a = record { right = rw a; bytes = refl }
+  pub told-binding : bindingOk number bindings (namesIn names) ≡ false → Told (Spelling.Refused (BadBinding number)) (textAnswer number bindings names text (length out)) (baseText number bindings names text) out out
+  unfolding textAnswer faultOf
+  told-binding a = record { right = rw a; bytes = refl }
 
-  pub told-name : (k : ℕ) → sizesOk (length bindings) (length names) (length text) ≡ true → firstBadName names text ≡ At k
-      → Told (BadName k) (spelled number bindings names text (length out)) (baseText number bindings names text) out out
-  unfolding spelled
-  told-name k a b = record { right = rw (a, b); bytes = refl }
-
-  pub told-binding : sizesOk (length bindings) (length names) (length text) ≡ true → firstBadName names text ≡ Nothing → bindingOk number bindings (namesIn names) ≡ false
-      → Told (BadBinding number) (spelled number bindings names text (length out)) (baseText number bindings names text) out out
-  unfolding spelled
-  told-binding a b c = record { right = rw (a, b, c); bytes = refl }
-
-  pub told-spelled : (r : Spelling) (role : ℕ) (p : Property) (out′ : List ℕ) → sizesOk (length bindings) (length names) (length text) ≡ true → firstBadName names text ≡ Nothing
-      → bindingOk number bindings (namesIn names) ≡ true → role ≡ roleOf bindings number → p ≡ propertyOf (propertyNumber bindings number)
+  pub told-text : (r : Spelling) (role : ℕ) (p : Property) (out′ : List ℕ) → bindingOk number bindings (namesIn names) ≡ true → role ≡ roleOf bindings number → p ≡ propertyOf (propertyNumber bindings number)
       → Told r (answerFor number (baseOf role) names text p (length out)) (textFor (baseOf role) names text p) out out′
+      → Told r (textAnswer number bindings names text (length out)) (baseText number bindings names text) out out′
+  unfolding textAnswer faultOf baseText
+  told-text r role p out′ a d e h = record { right = h .right ∙ rw (a, d, e); bytes = h .bytes ∙ rw (d, e) }
+
+  pub told-front : (f : Refusal) → frontOf bindings names text ≡ Tested.Refused f → Told (Spelling.Refused f) (spelled number bindings names text (length out)) (baseText number bindings names text) out out
+  unfolding spelled
+  told-front f a = record { right = rw a; bytes = refl }
+
+  pub told-spelled : (r : Spelling) (out′ : List ℕ) → frontOf bindings names text ≡ Tested.Passed → Told r (textAnswer number bindings names text (length out)) (baseText number bindings names text) out out′
       → Told r (spelled number bindings names text (length out)) (baseText number bindings names text) out out′
-  unfolding spelled baseText
-  told-spelled r role p out′ a b c d e h = record { right = h .right ∙ rw (a, b, c, d, e); bytes = h .bytes ∙ rw (d, e) }
+  unfolding spelled
+  told-spelled r out′ a h = record { right = h .right ∙ rw a; bytes = h .bytes }

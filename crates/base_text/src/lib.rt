@@ -1,4 +1,5 @@
-// Base text: the spelled base of a made binding. Refusals 1, 4, 11, 10 and 9, in that order.
+// Base text: the spelled base of a made binding. Refusals 1, 4, 11, 10 and 9, in that order. A maker of
+// names has it in two parts: what is the same for all bindings, and the text of one.
 mod bases;
 mod bindings;
 mod head;
@@ -12,7 +13,7 @@ ghost use mathlib.Core.Path.{_≡_};
 ghost use mathlib.Core.Bool.{Bool};
 ghost use Prim.Native.Nat.{ℕ};
 ghost use lib.ListN.{length};
-ghost use Rattle.base_text.specs.Refusals.{sizesOk, baseText, spelled, Told};
+ghost use Rattle.base_text.specs.Refusals.{sizesOk, frontOf, baseText, textAnswer, spelled, Told};
 
 // The property of an accessor: the number of its name, from 1, or none.
 pub enum Property {
@@ -20,9 +21,8 @@ pub enum Property {
     Absent,
 }
 
-// What base text answers.
-pub enum Spelling {
-    Written { bytes: u32 },
+// The refusals of base text, which the maker of names shares.
+pub enum Refusal {
     Malformed,
     BadName { name: u32 },
     BadBinding { binding: u32 },
@@ -30,11 +30,53 @@ pub enum Spelling {
     NoRoom,
 }
 
+// Whether a test was passed.
+pub enum Tested {
+    Passed,
+    Refused(Refusal),
+}
+
+// What base text answers.
+pub enum Spelling {
+    Written { bytes: u32 },
+    Refused(Refusal),
+}
+
 fn sizes_ok(bindings: usize, names: usize, text: usize) -> bool
     ensures { λ o. ⌜ o ≡ sizesOk bindings names text ⌝ }
 {
     let named = names::names_fit(names, text);
     (bindings % RECORD_BYTES == 0) & (bindings <= MOST_RECORDS * RECORD_BYTES) & named
+}
+
+// What is tested once for all bindings. Refusals 1 and 4.
+pub fn front(bindings: &[u8], names: &[u8], text: &[u8]) -> Tested
+    ensures { λ r. ⌜ r ≡ frontOf (now (bindings .entry)) (now (names .entry)) (now (text .entry)) ⌝ }
+{
+    if !sizes_ok(bindings.len(), names.len(), text.len()) {
+        return Tested::Refused(Refusal::Malformed);
+    }
+    let bad = names::first_bad_name(names, text);
+    if let Found::At(name) = bad {
+        return Tested::Refused(Refusal::BadName { name: name as u32 });
+    }
+    Tested::Passed
+}
+
+// Writes the text of binding `number`, from 1, to the front of `out`, of what passed `front`. Any answer
+// but Written leaves `out` as it was. Refusals 11, 10 and 9.
+pub fn text_of(number: u32, bindings: &[u8], names: &[u8], text: &[u8], out: &mut [u8]) -> Spelling
+    requires { ⌜ frontOf (now bindings) (now names) (now text) ≡ Tested.Passed ⌝ }
+    ensures { λ r. ⌜ Told r (textAnswer number (now (bindings .entry)) (now (names .entry)) (now (text .entry)) (length (now (out .entry))))
+        (baseText number (now (bindings .entry)) (now (names .entry)) (now (text .entry))) (now (out .entry)) (now (out .exit)) ⌝ }
+{
+    let binding = number as usize;
+    if !bindings::binding_ok(binding, bindings, names.len() / 8) {
+        return Spelling::Refused(Refusal::BadBinding { binding: number });
+    }
+    let role = bindings::role_of(bindings, binding);
+    let property = bindings::property_of(bindings, binding);
+    spell::spell(number, role, property, names, text, out)
 }
 
 // Writes the text of binding `number`, from 1, to the front of `out`. Any answer but Written leaves
@@ -49,18 +91,9 @@ pub fn base_text(
     ensures { λ r. ⌜ Told r (spelled number (now (bindings .entry)) (now (names .entry)) (now (text .entry)) (length (now (out .entry))))
         (baseText number (now (bindings .entry)) (now (names .entry)) (now (text .entry))) (now (out .entry)) (now (out .exit)) ⌝ }
 {
-    if !sizes_ok(bindings.len(), names.len(), text.len()) {
-        return Spelling::Malformed;
+    let tested = front(bindings, names, text);
+    if let Tested::Refused(refusal) = tested {
+        return Spelling::Refused(refusal);
     }
-    let bad = names::first_bad_name(names, text);
-    if let Found::At(name) = bad {
-        return Spelling::BadName { name: name as u32 };
-    }
-    let binding = number as usize;
-    if !bindings::binding_ok(binding, bindings, names.len() / 8) {
-        return Spelling::BadBinding { binding: number };
-    }
-    let role = bindings::role_of(bindings, binding);
-    let property = bindings::property_of(bindings, binding);
-    spell::spell(number, role, property, names, text, out)
+    text_of(number, bindings, names, text, out)
 }

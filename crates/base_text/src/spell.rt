@@ -1,5 +1,6 @@
 // The text of a binding whose record is sound. Refusals 10 and 9.
 use crate::Property;
+use crate::Refusal;
 use crate::Spelling;
 use crate::bases::base_of;
 use crate::head::head_of;
@@ -23,11 +24,11 @@ fn spell_property(number: u32, from: usize, count: usize, s: &[u8], out: &mut [u
     let capitals = head.count;
     let width = head.width;
     if capitals == 0 {
-        return Spelling::UnknownLetter { binding: number };
+        return Spelling::Refused(Refusal::UnknownLetter { binding: number });
     }
     let all = count + capitals + (s.len() - width);
     if out.len() < all {
-        return Spelling::NoRoom;
+        return Spelling::Refused(Refusal::NoRoom);
     }
     put_all(
         from,
@@ -80,7 +81,7 @@ pub fn spell(
     // An access with no property gives the bare base.
     let Property::Named(k) = property else {
         if out.len() < count {
-            return Spelling::NoRoom;
+            return Spelling::Refused(Refusal::NoRoom);
         }
         put_base(from, count, out);
         return Spelling::Written {

@@ -1,14 +1,15 @@
 -- The capitals of a first character, by the range in which it lies. Assumes nothing.
 use Prim.Native.Nat.{ℕ, _+_, _-_, _<_, _≤_}
-use mathlib.Core.Path.{_≡_, _∙_}
-use mathlib.Core.Bool.{Bool}
+use mathlib.Core.Path.{_≡_, refl, _∙_}
+use mathlib.Core.Bool.{Bool, true, false, cond, _&&_}
 use mathlib.Core.List.{List, [], _∷_}
-use lib.Dec.{T}
+use lib.Dec.{T, leb, ltb, eqb}
 use lib.ListN.{length, getD}
 use native.Mathlib.Omega.{arith}
-use borrow.Author.Tests.{lt-ltb, le-ltb, le-leb, lt-leb}
+use borrow.Author.Tests.{lt-ltb, le-ltb, le-leb, lt-leb, leb-true}
+use Rattle.names.proofs.Bools.{and-left, and-right}
 use Rattle.letters.specs.Characters.{encodeAll}
-use Rattle.letters.specs.Letters.{entryBytes, entryFor, capitalsIn, uppers, capital, flipped, Capitals}
+use Rattle.letters.specs.Letters.{entryBytes, entryFor, capitalsIn, uppers, Upper, inTable, capital, flipped, Capitals}
 use Rattle.letters.proofs.Table.{every, at, same, same-eq}
 
 -- The code's table against Unicode's: the test at one entry, and the law that turns it, passed over the whole table, into the rule at each entry.
@@ -63,3 +64,32 @@ beyond c h =
     let b : 0xFF < c = omega arith in
     let d : 0x400 ≤ c = omega arith in
     record { bytes = rw (le-ltb c 0x80 a, le-leb 0x80 c a, lt-leb c 0xFF b, le-leb 0x400 c d, lt-leb c 0x45F h); most = omega arith; heard = rw (le-ltb c 0x80 a, le-leb 0x80 c a, lt-leb c 0xFF b, le-leb 0x400 c d, lt-leb c 0x45F h) }
+
+-- at most two bytes stand for a first character: each entry of Unicode's list gives so many
+abbrev short : List Upper → Bool
+short [] = true
+short (u ∷ us) = leb (length (encodeAll (u .capitals))) 2 && short us
+
+short-one : (x y : Bool) (a b : List ℕ) → length a ≤ 2 → length b ≤ 2 → length (cond x a (cond y b [])) ≤ 2
+short-one true y a b p q = p
+short-one false true a b p q = q
+short-one false false a b p q = omega arith
+
+short-pick : (x : Bool) (a b : List ℕ) → length (encodeAll a) ≤ 2 → length (encodeAll b) ≤ 2 → length (encodeAll (cond x a b)) ≤ 2
+short-pick true a b p q = p
+short-pick false a b p q = q
+
+short-in : (us : List Upper) (c : ℕ) → short us ≡ true → length (encodeAll (capitalsIn us c)) ≤ 2
+unfolding capitalsIn encodeAll
+short-in [] c h = omega arith
+short-in (u ∷ us) c h =
+    let one = leb (length (encodeAll (u .capitals))) 2 in
+    short-pick (eqb c (u .code)) (u .capitals) (capitalsIn us c) (leb-true _ _ (and-left one (short us) h)) (short-in us c (and-right one (short us) h))
+
+all-short : short uppers ≡ true
+unfolding uppers encodeAll
+all-short = refl
+
+pub capital-short : (c : ℕ) → length (capital c) ≤ 2
+unfolding capital
+capital-short c = short-one (ltb c 0x80) (inTable c) (flipped c ∷ []) (encodeAll (capitalsIn uppers c)) (omega arith) (short-in uppers c all-short)

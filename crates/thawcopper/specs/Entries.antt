@@ -6,13 +6,13 @@ use mathlib.Core.List.{List, _++_}
 use lib.Dec.{eqb}
 use lib.ListN.{take, drop}
 use Rattle.steps.specs.Mode.{Switches, switches, bit}
-use Rattle.base_text.specs.Refusals.{numberOf, placeOf, countOf}
+use Rattle.base_text.specs.Refusals.{answerNumber, answerPlace, countOf}
 use Rattle.base_text.specs.declared.Spelling.{Spelling}
 
 -- Base text: the numbers of the answer, and the bytes lent before and after. The counted bytes of the text stand at the front, all else is as it was.
 pub record BaseTextAnswered (refusal place bytes : ℕ) (answer : Spelling) (text before after : List ℕ) : Type 0 where
-  pub refused : refusal ≡ numberOf answer
-  pub placed : place ≡ placeOf answer
+  pub refused : refusal ≡ answerNumber answer
+  pub placed : place ≡ answerPlace answer
   pub counted : bytes ≡ countOf answer
   pub written : after ≡ take (countOf answer) text ++ drop (countOf answer) before
 

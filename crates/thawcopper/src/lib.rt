@@ -3,13 +3,14 @@
 use acts::switches::Switches;
 use acts::switches::has_bit;
 use answer::Converted;
+use base_text::Refusal;
 use base_text::Spelling;
 use converter::convert;
 ghost use mathlib.Core.Path.{_≡_};
 ghost use mathlib.Core.Bool.{false};
 ghost use Prim.Native.Nat.{ℕ, _<_, _^_};
 ghost use lib.ListN.{length};
-ghost use Rattle.base_text.specs.Refusals.{numberOf, placeOf, countOf, baseText, spelled};
+ghost use Rattle.base_text.specs.Refusals.{numberOf, placeOf, answerNumber, answerPlace, countOf, baseText, spelled};
 ghost use Rattle.answer.specs.Answer as answers;
 ghost use Rattle.answer.specs.Converting.{Converts};
 ghost use Rattle.acts.specs.View.{switchesOf};
@@ -33,17 +34,26 @@ fn answered(refusal: u32, place: u32, bytes: u32) -> Spelled
     }
 }
 
+// The request's numbers of a refusal of base text.
+fn numbers_of_refusal(refusal: Refusal) -> Spelled
+    ensures { λ r. ⌜ (r .refusal ≡ numberOf refusal) × (r .place ≡ placeOf refusal) × (r .bytes ≡ 0) ⌝ }
+{
+    match refusal {
+        Refusal::Malformed => answered(1, 0, 0),
+        Refusal::BadName { name } => answered(4, name, 0),
+        Refusal::BadBinding { binding } => answered(11, binding, 0),
+        Refusal::UnknownLetter { binding } => answered(10, binding, 0),
+        Refusal::NoRoom => answered(9, 0, 0),
+    }
+}
+
 // The request's numbers of an answer.
 fn numbers_of(answer: Spelling) -> Spelled
-    ensures { λ r. ⌜ (r .refusal ≡ numberOf answer) × (r .place ≡ placeOf answer) × (r .bytes ≡ countOf answer) ⌝ }
+    ensures { λ r. ⌜ (r .refusal ≡ answerNumber answer) × (r .place ≡ answerPlace answer) × (r .bytes ≡ countOf answer) ⌝ }
 {
     match answer {
         Spelling::Written { bytes } => answered(0, 0, bytes),
-        Spelling::Malformed => answered(1, 0, 0),
-        Spelling::BadName { name } => answered(4, name, 0),
-        Spelling::BadBinding { binding } => answered(11, binding, 0),
-        Spelling::UnknownLetter { binding } => answered(10, binding, 0),
-        Spelling::NoRoom => answered(9, 0, 0),
+        Spelling::Refused(refusal) => numbers_of_refusal(refusal),
     }
 }
 

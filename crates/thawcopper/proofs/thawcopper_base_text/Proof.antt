@@ -3,7 +3,7 @@ use mathlib.Core.Path.{ap, _∙_}
 use mathlib.Core.List.{List, _++_}
 use lib.ListN.{take, drop}
 use borrow.Author.Needs.{needs}
-use Rattle.base_text.specs.Refusals.{numberOf, placeOf, countOf, baseText}
+use Rattle.base_text.specs.Refusals.{answerNumber, answerPlace, countOf, baseText}
 use Rattle.base_text.specs.declared.Spelling.{Spelling}
 use Rattle.thawcopper.proofs.thawcopper_base_text.Statement.{statement}
 use Rattle.thawcopper.proofs.thawcopper_base_text.Tie as tie
@@ -23,8 +23,8 @@ returns c =
     let told = c .before .before .before .base-text .ensures in
     let said = c .numbers-of .ensures in
     record {
-      refused = said .0 ∙ ap numberOf (told .right);
-      placed = said .1 ∙ ap placeOf (told .right);
+      refused = said .0 ∙ ap answerNumber (told .right);
+      placed = said .1 ∙ ap answerPlace (told .right);
       counted = said .2 ∙ ap countOf (told .right);
       written = told .bytes ∙ ap (λ (s : Spelling). take (countOf s) (baseText (a .number) (a .bindings .now) (a .names .now) (a .text .now)) ++ drop (countOf s) (a .out .now)) (told .right);
     }

@@ -25,8 +25,8 @@ returns c = bare-room _ _ _ _ _ _ _ (c .before .enum-told .given .1) (c .before 
 put-base-requires : tie.Need-put-base-requires
 put-base-requires c κs = search needs
 
-cast-t16 : tie.Need-cast-t16
-cast-t16 c = search needs
+cast-t17 : tie.Need-cast-t17
+cast-t17 c = search needs
 
 same-length : tie.Need-same-length
 same-length c = search needs
@@ -61,7 +61,7 @@ spell-spec =
     enum-told
     returns
     put-base-requires
-    cast-t16
+    cast-t17
     same-length
     returns-2
     spell-named-requires

@@ -34,8 +34,8 @@ returns-2 c =
 put-all-requires : tie.Need-put-all-requires
 put-all-requires c κs = search needs
 
-cast-t17 : tie.Need-cast-t17
-cast-t17 c = search needs
+cast-t19 : tie.Need-cast-t19
+cast-t19 c = search needs
 
 same-length : tie.Need-same-length
 same-length c = search needs
@@ -57,6 +57,6 @@ spell-property-spec =
     add-all-2
     returns-2
     put-all-requires
-    cast-t17
+    cast-t19
     same-length
     returns-3)
