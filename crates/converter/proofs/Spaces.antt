@@ -1,18 +1,14 @@
 -- An array of zeros holds no binding, and no accessor in a bucket. Assumes nothing.
-use mathlib.Core.Path.{_≡_, refl, _∙_}
+use mathlib.Core.Path.{_≡_, _∙_}
 use mathlib.Core.List.{List, []}
-use Prim.Native.Nat.{ℕ, zero, suc, _+_, _*_, _<_}
-use lib.ListN.{getD, replicate, length-replicate}
+use Prim.Native.Nat.{ℕ, _+_, _*_, _<_}
+use lib.ListN.{replicate, length-replicate}
 use lib.Seq.{getD-drop}
+use Rattle.names.proofs.Zeros.{zeros}
 use Rattle.bindings.specs.Store.{Store}
 use Rattle.bindings.specs.Filed.{Filed, behind}
 use Rattle.bindings.proofs.Numbered.{no-bindings}
 use Rattle.bindings.proofs.Filing.{none-filed}
-
-zeros : (n j : ℕ) → _≡_ {A = ℕ} (getD (replicate n 0) j 0) 0
-zeros zero j = refl
-zeros (suc n) zero = refl
-zeros (suc n) (suc j) = zeros n j
 
 pub zero-store : (n cap : ℕ) → n ≡ 12 * cap → 0 < cap → Store (replicate n 0) cap 0
 zero-store n cap q l = no-bindings (replicate n 0) cap (rw q (length-replicate (12 * cap) 0)) l (zeros n)

@@ -1,20 +1,14 @@
 -- Laws of writing bytes where there may be no room: one after another, at the front, digit by digit. Assumes nothing.
 use mathlib.Core.Path.{_≡_, refl, sym, ap, _∙_}
 use mathlib.Core.List.{List, [], _∷_, _++_}
-use Prim.Native.Nat.{ℕ, suc, _+_, _/_, _%_, _≤_, _<_}
+use Prim.Native.Nat.{ℕ, _+_, _/_, _%_, _≤_, _<_}
 use native.Mathlib.Omega.{arith}
 use native.Mathlib.Numerals.{add-one}
-use lib.ListN.{length, set, take, drop, getD, length-append}
+use lib.ListN.{length, take, drop, getD, length-append}
 use lib.Seq.{sets, sets-eq, set-out, take-suc, take-all}
+use Rattle.names.proofs.Storing.{sets-append}
 use Rattle.decimal.specs.Decimal.{decimal, Wrote}
 use Rattle.decimal.proofs.Digits.{decimal-small, decimal-more, decimal-short, decimal-some}
-
--- what is stored in two goes
-pub sets-append : (xs ys l : List ℕ) (i : ℕ) → sets l i (xs ++ ys) ≡ sets (sets l i xs) (i + length xs) ys
-sets-append [] ys l i = let e : i + 0 ≡ i = omega arith in rw e
-sets-append (x ∷ xs) ys l i =
-    let e : i + suc (length xs) ≡ suc i + length xs = omega arith in
-    sets-append xs ys (set l i x) (suc i) ∙ rw e
 
 -- two functions that write, one after the other, write both
 pub then : {l m o xs ys : List ℕ} {i j k : ℕ} → Wrote l i xs j m → Wrote m j ys k o → Wrote l i (xs ++ ys) k o

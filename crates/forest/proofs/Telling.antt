@@ -11,6 +11,7 @@ use lib.Dec.{eqb, ltb, leb, eqb·suc-zero}
 use lib.ListN.{getD, length, set, length-set, replicate, length-replicate}
 use lib.Seq.{getD-set-same, getD-set-other}
 use Rattle.names.specs.Words.{endAt}
+use Rattle.names.proofs.Zeros.{zeros}
 use Rattle.forest.specs.Faults.{endGood, kids, kidsOf}
 use Rattle.forest.specs.Told.{toldIn, toldBy, Fresh}
 use Rattle.forest.proofs.Children.{good-past, kids-good, kids-bad, kids-done}
@@ -126,12 +127,6 @@ module _ (ws : List ℕ) (say : ℕ → ℕ → ℕ) (e : ℕ) where
       }
 
 -- The visit of the rows in order, with what each has been told in an array R.
--- n zeros hold 0 everywhere
-zeros : (n j : ℕ) → _≡_ {A = ℕ} (getD (replicate n 0) j 0) 0
-zeros zero j = refl
-zeros (suc n) zero = refl
-zeros (suc n) (suc j) = zeros n j
-
 cond-zero : (b : Bool) → _≡_ {A = ℕ} 0 (cond b 0 0)
 cond-zero true = refl
 cond-zero false = refl

@@ -29,6 +29,11 @@ or-right true true h = h
 pub and-both : {a b : Bool} → a ≡ true → b ≡ true → (a && b) ≡ true
 and-both {a} {b} p q = rw (p, q)
 
+-- one of two tests holds
+pub or-true : (a : Bool) → (a || true) ≡ true
+or-true true = refl
+or-true false = refl
+
 lt-or : (a b : ℕ) (t : Bool) → ltb a b ≡ t → (a < b) ⊎ (b ≤ a)
 lt-or a b true q = inl (ltb-true a b q)
 lt-or a b false q = inr (ltb-false a b q)

@@ -1,4 +1,5 @@
 pub mod Bools
+pub mod Zeros
 pub mod Cells
 pub mod Storing
 pub mod Seeking

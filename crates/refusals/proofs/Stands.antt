@@ -11,6 +11,7 @@ use Rattle.grammar.specs.Kinds.{Program, Super, Call, Function, Field, StaticBl
 use Rattle.names.specs.Words.{words, kindAt, attrAt}
 use Rattle.forest.specs.Told.{toldBy}
 use Rattle.names.specs.First.{first}
+use Rattle.names.proofs.Zeros.{zeros}
 use Rattle.forest.specs.Forest.{rowsAt}
 use Rattle.rows.proofs.Soundness.{words-long}
 use Rattle.forest.proofs.Telling.{told-zero}
@@ -112,15 +113,9 @@ toldFrom ws v p pos c = standTold v (kindAt ws p) (attrAt ws p) pos
 abbrev pub standOf : List ℕ → ℕ → ℕ
 standOf ws j = toldBy ws (toldFrom ws) 0 j j
 
--- an entry of an array of zeros is 0
-zero-at : (m j : ℕ) → _≡_ {A = ℕ} (getD (replicate m 0) j 0) 0
-zero-at zero j = refl
-zero-at (suc m) zero = refl
-zero-at (suc m) (suc j) = zero-at m j
-
--- so such an array of m entries serves n rows, n at most m
+-- an array of m zeros serves n rows, n at most m
 pub clear : (m n : ℕ) → n ≤ m → Clear (replicate m 0) n
-clear m n h = record { room = omega (arith, length-replicate {A = ℕ} m 0); zeros = zero-at m }
+clear m n h = record { room = omega (arith, length-replicate {A = ℕ} m 0); zeros = zeros m }
 
 -- it holds what rows have been told before row 0 is met
 pub clear-told : (ws R : List ℕ) (n : ℕ) → Clear R n → (j : ℕ) → getD R j 0 ≡ toldBy ws (toldFrom ws) 0 0 j

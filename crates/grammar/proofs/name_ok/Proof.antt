@@ -5,6 +5,7 @@ use Prim.Native.Nat.{ℕ, _≤_}
 use native.Mathlib.Omega.{arith}
 use borrow.Author.Tests.{eqb-true, ne-eqb, le-leb}
 use lib.Dec.{eqb, ltb, leb}
+use Rattle.names.proofs.Bools.{or-true}
 use Rattle.grammar.specs.Kinds.{Declarator, Ident, Member, Function, Class, Other, Opaque, Arguments}
 use Rattle.grammar.specs.Grammar.{namesOne, nameOk}
 use borrow.Author.Needs.{needs}
@@ -14,10 +15,6 @@ use Rattle.grammar.proofs.name_ok.Tie as tie
 either : (C : Type 0) (x y : Bool) → (x || y) ≡ true → (x ≡ true → C) → (y ≡ true → C) → C
 either C true y e f g = f refl
 either C false y e f g = g e
-
-or-true : (x : Bool) → (x || true) ≡ true
-or-true true = refl
-or-true false = refl
 
 and-false : (x : Bool) → (x && false) ≡ false
 and-false true = refl
