@@ -13,6 +13,7 @@ ghost use mathlib.Core.Path.{_≡_};
 ghost use mathlib.Core.Bool.{Bool};
 ghost use Prim.Native.Nat.{ℕ};
 ghost use lib.ListN.{length};
+ghost use Rattle.base_text.specs.Bindings.{recordsIn};
 ghost use Rattle.base_text.specs.Refusals.{sizesOk, frontOf, baseText, textAnswer, spelled, Told};
 
 // The property of an accessor: the number of its name, from 1, or none.
@@ -40,6 +41,13 @@ pub enum Tested {
 pub enum Spelling {
     Written { bytes: u32 },
     Refused(Refusal),
+}
+
+// How many records a list of bindings has.
+pub fn records_in(bindings: &[u8]) -> usize
+    ensures { λ r. ⌜ r ≡ recordsIn (now (bindings .entry)) ⌝ }
+{
+    bindings.len() / RECORD_BYTES
 }
 
 fn sizes_ok(bindings: usize, names: usize, text: usize) -> bool

@@ -1,7 +1,7 @@
 -- Names laid end to end: what two lists of names have together, and where name k lies. Assumes nothing.
 use mathlib.Core.Path.{_≡_, refl, sym, ap, _∙_}
 use mathlib.Core.List.{List, [], _∷_, _++_, append-assoc}
-use Prim.Native.Nat.{ℕ, zero, suc, _+_, _*_, _<_}
+use Prim.Native.Nat.{ℕ, zero, suc, _+_, _*_, _≤_, _<_}
 use native.Mathlib.Omega.{arith}
 use lib.ListN.{length, take, drop, getD, length-append}
 use lib.Seq.{take-append-seam, drop-append-add}
@@ -47,3 +47,11 @@ laid-part [] k h = absurd (omega arith)
 laid-part (l ∷ ls) zero h = take-append-seam l (joined ls)
 laid-part (l ∷ ls) (suc k) h =
     rw (length-append l (joined (take k ls)), drop-append-add l (joined ls) (length (joined (take k ls)))) (laid-part ls k (omega arith))
+
+-- which lie in it
+pub laid-within : (ls : List (List ℕ)) (k : ℕ) → k < length ls → length (joined (take k ls)) + length (getD ls k []) ≤ length (joined ls)
+unfolding joined
+laid-within [] k h = absurd (omega arith)
+laid-within (l ∷ ls) zero h = omega (arith, length-append l (joined ls))
+laid-within (l ∷ ls) (suc k) h =
+    omega (arith, length-append l (joined ls), length-append l (joined (take k ls)), laid-within ls k (omega arith))

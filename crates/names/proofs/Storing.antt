@@ -63,6 +63,14 @@ words-bytes (x ∷ ws) =
     let e : x % 256 + 256 * (x / 256 % 256) + 65536 * (x / 65536 % 256) + 16777216 * (x / 16777216) ≡ x = omega arith in
     rw (e, words-bytes ws)
 
+-- and so do those that stand before other bytes
+pub words-before : (ws rest : List ℕ) → words (bytesOf ws ++ rest) ≡ ws ++ words rest
+unfolding words bytesOf le32
+words-before [] rest = refl
+words-before (x ∷ ws) rest =
+    let e : x % 256 + 256 * (x / 256 % 256) + 65536 * (x / 65536 % 256) + 16777216 * (x / 16777216) ≡ x = omega arith in
+    rw (e, words-before ws rest)
+
 -- and where they stand at the front, so do the bytes there
 pub front-words : (ws rest after : List ℕ) (n : ℕ) → 4 * length ws ≡ n → after ≡ bytesOf ws ++ rest → words (take n after) ≡ ws
 front-words ws rest after n l q =

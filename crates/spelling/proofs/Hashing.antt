@@ -8,9 +8,9 @@ use native.Mathlib.Numerals.{add-one}
 use lib.Dec.{eqb}
 use lib.ListN.{length, drop, getD}
 use lib.Seq.{drop-cons}
-use borrow.Author.Tests.{eqb-true}
+use borrow.Author.Tests.{eqb-true, eq-eqb}
 use Rattle.names.specs.Names.{bytesOf, sameBytes, sameName}
-use Rattle.names.proofs.Bools.{and-left, and-right}
+use Rattle.names.proofs.Bools.{and-left, and-right, and-both}
 use Rattle.spelling.specs.Spelling.{isName}
 use Rattle.spelling.specs.Hash.{hashFrom, hashOf}
 use Rattle.spelling.proofs.Bytes.{drop-all, no-bytes}
@@ -40,12 +40,18 @@ unfolding hashFrom
 hash-none names text k h = sym (ap hashOf (no-bytes names text k h))
 
 -- names that are the same have the same bytes
-same-list : (xs ys : List ℕ) → sameBytes xs ys ≡ true → xs ≡ ys
+pub same-list : (xs ys : List ℕ) → sameBytes xs ys ≡ true → xs ≡ ys
 unfolding sameBytes
 same-list [] [] h = refl
 same-list [] (y ∷ ys) h = absurd (false≢true h)
 same-list (x ∷ xs) [] h = absurd (false≢true h)
 same-list (x ∷ xs) (y ∷ ys) h = rw (eqb-true x y (and-left (eqb x y) (sameBytes xs ys) h), same-list xs ys (and-right (eqb x y) (sameBytes xs ys) h))
+
+-- and bytes are the same as themselves
+pub same-self : (xs : List ℕ) → sameBytes xs xs ≡ true
+unfolding sameBytes
+same-self [] = refl
+same-self (x ∷ xs) = and-both (eq-eqb x x refl) (same-self xs)
 
 pub same-bytes-of : (names text : List ℕ) (j k : ℕ) → sameName names text j k ≡ true → bytesOf names text j ≡ bytesOf names text k
 unfolding sameName

@@ -2,12 +2,14 @@
 use names::words::cell;
 ghost use mathlib.Core.Path.{_≡_};
 ghost use Rattle.names.specs.Names.{sameBytes, sameName, isArguments};
+ghost use mathlib.Core.Bool.{true};
 ghost use Prim.Native.Nat.{_<_};
 ghost use Rattle.names.specs.Names.{bytesOf};
 ghost use Rattle.spelling.specs.Spelling.{isName, GivenNames};
 ghost use Rattle.spelling.specs.Hash.{hashFrom, hashOf};
 
-fn same_bytes(a: &[u8], b: &[u8]) -> bool
+// Whether two spellings are the same.
+pub fn same_bytes(a: &[u8], b: &[u8]) -> bool
     ensures { λ r. ⌜ r ≡ sameBytes (now (a .entry)) (now (b .entry)) ⌝ }
 {
     if a.len() != b.len() {
@@ -29,6 +31,18 @@ fn is_name(names: &[u8], k: usize) -> bool
     (0 < k) & (k <= names.len() / 8)
 }
 
+// Whether name k is spelled x.
+pub fn is_spelled(names: &[u8], text: &[u8], k: usize, x: &[u8]) -> bool
+    requires { ⌜ GivenNames (now names) (now text) ⌝ }
+    requires { ⌜ isName (now names) k ≡ true ⌝ }
+    ensures { λ r. ⌜ r ≡ sameBytes (bytesOf (now (names .entry)) (now (text .entry)) k) (now (x .entry)) ⌝ }
+{
+    let pair = 2 * (k - 1);
+    let start = cell(names, pair);
+    let end = start + cell(names, pair + 1);
+    same_bytes(&text[start..end], x)
+}
+
 // Whether name k is `arguments`.
 pub fn is_arguments(names: &[u8], text: &[u8], k: usize) -> bool
     requires { ⌜ GivenNames (now names) (now text) ⌝ }
@@ -37,10 +51,7 @@ pub fn is_arguments(names: &[u8], text: &[u8], k: usize) -> bool
     if !is_name(names, k) {
         return false;
     }
-    let pair = 2 * (k - 1);
-    let start = cell(names, pair);
-    let end = start + cell(names, pair + 1);
-    same_bytes(&text[start..end], b"arguments")
+    is_spelled(names, text, k, b"arguments")
 }
 
 // Whether two names are the same. A number that is no name has no bytes.
@@ -71,7 +82,7 @@ fn wide(x: u8) -> usize
 }
 
 // A number of some bytes.
-fn hash_bytes(a: &[u8]) -> usize
+pub fn hash_bytes(a: &[u8]) -> usize
     ensures { λ r. ⌜ (r ≡ hashOf (now (a .entry))) × (r < 4294967296) ⌝ }
 {
     let mut h: usize = 0;

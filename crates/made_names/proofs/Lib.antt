@@ -1,0 +1,4 @@
+pub mod Laying
+pub mod Sizing
+pub mod Telling
+pub mod Names
