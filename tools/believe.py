@@ -23,6 +23,10 @@ ENTRIES = [
     ("crates/converter/src/lib.rt", "convert"),
     ("crates/thawcopper/src/lib.rt", "thawcopper_base_text"),
     ("crates/base_text/src/lib.rt", "base_text"),
+    ("crates/thawcopper/src/lib.rt", "thawcopper_make_names"),
+    ("crates/made_names/src/lib.rt", "make_names"),
+    ("crates/thawcopper/src/lib.rt", "thawcopper_spelling"),
+    ("crates/lookup/src/lib.rt", "spelling"),
     ("crates/rows/src/lib.rt", "check"),
     ("crates/convert/src/main.rt", "answer_text"),
 ]
@@ -297,7 +301,7 @@ def entry(path, name):
     text = re.sub(r"^ *//.*\n", "", text_of(path), flags=re.M)
     for line in re.findall(r"^ghost (use [^;]*);", text, re.M):
         scope.use(line)
-    head = r"^(?:pub )?(?:extern \"C\" )?fn %s\(([^()]*)\)(?: -> (.*))?\n((?:.+\n)*?)\{\n" % name
+    head = r"^(?:pub )?(?:extern \"C\" )?fn %s(?:<[^<>]*>)?\(([^()]*)\)(?: -> (.*))?\n((?:.+\n)*?)\{\n" % name
     found = re.findall(head, text, re.M)
     if len(found) != 1 or not found[0][2]:
         item.stop("%d functions with a promise are so called" % len(found))

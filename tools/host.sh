@@ -1,11 +1,13 @@
 #!/usr/bin/env bash
 # The Rust host: builds it, tests it, and compares the library with the reference.
 #
-#   host.sh                        unit tests, doc tests, the C header, the stored conversions, the fixed seed's comparison
+#   host.sh                        unit tests, doc tests, the C header, the names of the examples, the stored conversions, the
+#                                  fixed seed's comparison
 #   host.sh long SEED MINUTES      the comparison of random tables, from another seed
 #   host.sh more                   the comparison of all tables, a size up
 #   host.sh sample                 writes host/sample anew, from the reference's answers
 #   host.sh bench [cleared] [ample]    the library beside the reference and beside a plain copy
+#   host.sh bench names            made names and base text beside the reference
 #   host.sh bench profile SHAPE MODE    the library alone, for a profiler
 #
 # The archive is built with rt where it is missing, and for a benchmark. Cargo is used where it is there, without a registry; else rustc and
@@ -82,7 +84,7 @@ case ${1:-} in
     ;;
   '') ;;
   *)
-    echo "usage: host.sh [long SEED MINUTES | more | sample | bench [cleared] [ample] | bench profile SHAPE MODE]" >&2
+    echo "usage: host.sh [long SEED MINUTES | more | sample | bench [cleared] [ample] | bench names | bench profile SHAPE MODE]" >&2
     exit 2
     ;;
 esac
@@ -92,13 +94,32 @@ if ! command -v cc >/dev/null 2>&1; then
 fi
 if with_cargo; then
   offline_cargo test --package thawcopper --package thawcopper-reference
+  offline_cargo build --package thawcopper --examples
+  examples=$bin/examples
 else
   test_by_rustc thawcopper_test host/src/lib.rs -l static=thawcopper
   test_by_rustc reference_test host/reference/src/lib.rs
   test_by_rustc header_test host/tests/header.rs
   rustdoc --edition 2021 --test --crate-name thawcopper -L "native=$archive" \
     --extern "thawcopper=$bin/libthawcopper.rlib" host/src/lib.rs
+  for example in sheet names; do
+    by_rustc bin "$example" "host/examples/$example.rs" --extern "thawcopper=$bin/libthawcopper.rlib"
+  done
+  examples=$bin
 fi
+
+# The names that are made for the sheets below examples/: as stored, and none where the sheet is refused.
+for sheet in examples/*/sheet; do
+  stored=$(dirname "$sheet")/names
+  if [[ -e $stored ]]; then
+    "$examples/names" "$sheet" | cmp - "$stored"
+  elif "$examples/names" "$sheet" >/dev/null 2>&1; then
+    echo "$sheet is not refused, and has no stored names" >&2
+    exit 1
+  fi
+done
+# And host/README.md shows what the first example prints.
+"$examples/sheet" | cmp - <(sed -n '/^```text$/,/^```$/p' host/README.md | sed '1d;$d')
 
 # The stored conversions against the reference: those of the repository's model, and the reference's own.
 "$bin/compare" stored crates/replay_convert/stdin

@@ -1,22 +1,16 @@
-//! Converts `() => this` and prints the rows of the result.
+//! Converts `() => this` and prints the rows of the result: kind, attr, name and end, and how an Ident or a Declarator is
+//! spelled.
 
-use thawcopper::{convert, Node, Switches, Table};
+use thawcopper::{convert, Node, Refusal, Switches, Table};
 
-fn main() {
+fn main() -> Result<(), Refusal> {
     let script = Node::program([Node::statement(Node::arrow([], Node::this()))]);
     let table = Table::from_tree(&script);
-    match convert(&Switches::ARROWS, &table) {
-        Ok(converted) => {
-            for row in &converted.rows {
-                println!("{} {} {} {}", row.kind, row.attr, row.name, row.end);
-            }
-            for number in 1..=converted.bindings.len() as u32 {
-                match converted.base_text(&table, number) {
-                    Ok(text) => println!("binding {}: {}", number, text),
-                    Err(refusal) => println!("{}", refusal),
-                }
-            }
-        }
-        Err(refusal) => println!("{}", refusal),
+    let converted = convert(&Switches::ARROWS, &table)?;
+    let names = converted.names(&table)?;
+    for row in &converted.rows {
+        let spelled = names.spelling(&table, row).map_or(String::new(), |name| format!(" {}", name));
+        println!("{} {} {} {}{}", row.kind, row.attr, row.name, row.end, spelled);
     }
+    Ok(())
 }

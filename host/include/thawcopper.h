@@ -8,7 +8,8 @@
  * be null. The memory that is written must not overlap any other that is handed over.
  *
  * A conversion needs up to 896 KiB of stack, by the size of the table: give its thread 1 MiB or more. With
- * THAWCOPPER_TABLET it takes smaller tables only and up to 112 KiB, so a stack of 192 KiB is enough.
+ * THAWCOPPER_TABLET it takes smaller tables only and up to 112 KiB, so a stack of 192 KiB is enough. Making names needs
+ * under 1 MiB, by the number of names and bindings: a thread of 1 MiB has that too.
  */
 #ifndef THAWCOPPER_H
 #define THAWCOPPER_H
@@ -32,8 +33,9 @@ enum {
     THAWCOPPER_FIELD = 7,           /* the first class field whose value cannot be converted */
     THAWCOPPER_ARGUMENTS = 8,       /* the first binding that is called arguments */
     THAWCOPPER_NO_ROOM = 9,         /* place 0: what is lent is too short for the result */
-    THAWCOPPER_UNKNOWN_LETTER = 10, /* base text: the binding whose property starts with another script's letter */
-    THAWCOPPER_BAD_BINDING = 11     /* base text: no such binding, or no such record */
+    THAWCOPPER_UNKNOWN_LETTER = 10, /* base text, names: the binding whose property has another script's first letter */
+    THAWCOPPER_BAD_BINDING = 11,    /* base text, names: no such binding, or no such record */
+    THAWCOPPER_NO_SPELLING = 18     /* spelling, which has no place: attr above 1, or no pair that lies in its text */
 };
 
 /* Bits of the options of thawcopper_convert_with. */
@@ -67,6 +69,19 @@ typedef struct {
     uint32_t bytes; /* written to the front of out */
 } thawcopper_spelled;
 
+typedef struct {
+    uint32_t refusal;
+    uint32_t place;
+    uint32_t pairs; /* written to the front of out_pairs, 8 bytes each: one for each binding */
+    uint32_t bytes; /* written to the front of out_text */
+} thawcopper_named;
+
+typedef struct {
+    uint32_t refusal; /* THAWCOPPER_NO_SPELLING or 0 */
+    uint32_t start;   /* in text for attr 0, in made_text for attr 1 */
+    uint32_t bytes;
+} thawcopper_part;
+
 /* Converts a table as the print room: at most 16,384 rows and depth 128. A switch is on where it is not 0. */
 thawcopper_answer thawcopper_convert(
     uint32_t arrow, uint32_t async_to_generator, uint32_t async_generator_functions,
@@ -94,6 +109,33 @@ thawcopper_spelled thawcopper_base_text(
     const uint8_t *names, size_t names_len,
     const uint8_t *text, size_t text_len,
     uint8_t *out, size_t out_len);
+
+/* The names of all bindings: an underscore and the base text, and where that is taken the smallest number from 2 up
+ * that frees it. Taken are all names of the table and the names of the bindings before. They stand end to end in
+ * out_text; pair b of out_pairs is (start, length) of binding b there. Refused are, in this order, what base text
+ * refuses by 1 and 4, then the first binding that it refuses by 11 or 10, and last, by 9, what has no room for the
+ * bytes or for whole pairs.
+ *
+ * A made name has up to 274 bytes, so 274 for each binding are enough; a later version may need a few more. Since names
+ * may have 255 (4), made pairs are not fit to be lent as `names`. */
+thawcopper_named thawcopper_make_names(
+    const uint8_t *bindings, size_t bindings_len,
+    const uint8_t *names, size_t names_len,
+    const uint8_t *text, size_t text_len,
+    uint8_t *out_pairs, size_t out_pairs_len,
+    uint8_t *out_text, size_t out_text_len);
+
+/* How an Ident is spelled, by its attr and its name: with attr 0 the part of `text` that pair `number` of `names` says,
+ * with attr 1 the part of `made_text` that pair `number` of `made_pairs` says. Pairs are numbered from 1. Nothing is
+ * written. THAWCOPPER_NO_SPELLING, with start 0 and 0 bytes, where attr is above 1, there is no whole pair of that
+ * number, or the pair reaches past its text; no other test is made, so a pair of length 0 is an empty part. */
+thawcopper_part thawcopper_spelling(
+    uint32_t attr,
+    uint32_t number,
+    const uint8_t *names, size_t names_len,
+    const uint8_t *text, size_t text_len,
+    const uint8_t *made_pairs, size_t made_pairs_len,
+    const uint8_t *made_text, size_t made_text_len);
 
 #ifdef __cplusplus
 }

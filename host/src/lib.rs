@@ -16,7 +16,10 @@
 //! let kinds: Vec<_> = converted.rows.iter().map(|row| row.kind().unwrap()).collect();
 //! use Kind::*;
 //! assert_eq!(kinds, [Program, Var, Declarator, This, ExprStmt, Function, Params, Body, Return, Ident]);
-//! assert_eq!(converted.base_text(&table, 1).unwrap(), "this");
+//!
+//! // The last row is an Ident of binding 1, which is called `_this`.
+//! let names = converted.names(&table).unwrap();
+//! assert_eq!(names.spelling(&table, &converted.rows[9]), Some("_this"));
 //! ```
 //!
 //! The package has no dependencies. It links `libthawcopper.a`, which `rt staticlib thawcopper` writes; the build script
@@ -25,8 +28,12 @@
 //! [`convert_with`] takes [`Options`], which beside the [`Switches`] say whether it is the print room that calls, as
 //! [`convert`] does, or a contractors' tablet, which takes smaller tables.
 //!
+//! [`Converted::names`] gives each binding a name that no other has, and [`Names::spelling`] the spelling of a row by it.
+//!
 //! A call takes up to 896 KiB of stack, which a thread of Rust's default size has; on a tablet 192 KiB are enough.
+//! Making names takes under 1 MiB.
 
+mod names;
 mod node;
 mod origins;
 mod refusal;
@@ -34,6 +41,7 @@ mod table;
 
 pub mod raw;
 
+pub use names::{make_names, make_names_into, NameCounts, Names, NamesIter};
 pub use node::{Name, Node};
 pub use refusal::Refusal;
 pub use table::{Binding, Children, Kind, Row, Table, Use};
@@ -273,7 +281,27 @@ impl Converted {
         origins::origins(&self.rows, &self.bindings, table)
     }
 
-    /// What binding `number`, from 1, is to be called, before the host makes it unique: see [`base_text`].
+    /// The names of the bindings, over those of the table that was converted: see [`make_names`].
+    ///
+    /// ```
+    /// use thawcopper::{convert, Node, Switches, Table};
+    ///
+    /// // class C { async m() { super[k] = _value; } }
+    /// let access = Node::computed(Node::super_(), Node::ident("k"));
+    /// let statement = Node::statement(Node::assign(access, Node::ident("_value")));
+    /// let class = Node::class(None, [Node::method(Node::function([], [statement]).async_())]).declaration();
+    /// let table = Table::from_tree(&Node::program([class]));
+    ///
+    /// // var _superprop_set = (_prop, _value2) => super[_prop] = _value2; _superprop_set(k, _value);
+    /// let names = convert(&Switches::ASYNC, &table).unwrap().names(&table).unwrap();
+    /// assert_eq!(names.iter().collect::<Vec<_>>(), ["_superprop_set", "_prop", "_value2"]);
+    /// ```
+    pub fn names(&self, table: &Table) -> Result<Names, Refusal> {
+        make_names(&self.bindings, table)
+    }
+
+    /// What binding `number`, from 1, is called before it is made unique, as [`names`](Converted::names) does: see
+    /// [`base_text`].
     pub fn base_text(&self, table: &Table, number: u32) -> Result<String, Refusal> {
         base_text(&self.bindings, table, number)
     }
@@ -409,8 +437,8 @@ fn counted(answer: raw::Answer) -> Result<Counts, Refusal> {
     }
 }
 
-/// What binding `number`, from 1, is to be called, before the host makes it unique: `this`, `arguments`, `prop`, `value`,
-/// or `superprop_get` or `superprop_set` and the property with its first letter upper-cased.
+/// What binding `number`, from 1, is called before it is made unique, as [`make_names`] does: `this`, `arguments`, `prop`,
+/// `value`, or `superprop_get` or `superprop_set` and the property with its first letter upper-cased.
 ///
 /// ```
 /// use thawcopper::{base_text, Binding, Refusal, Table, Use};

@@ -3,7 +3,7 @@
 use std::error::Error;
 use std::fmt;
 
-/// Why a table was turned away, or a base text not given. Rows are counted from 0, names and bindings from 1.
+/// Why a table was turned away, or a base text or the names of bindings were not given. Rows are counted from 0, names and bindings from 1.
 #[derive(Clone, Copy, Debug, PartialEq, Eq, Hash)]
 #[non_exhaustive]
 pub enum Refusal {

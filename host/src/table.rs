@@ -108,7 +108,8 @@ impl Kind {
     }
 }
 
-fn words<const N: usize>(bytes: &[u8]) -> [u32; N] {
+/// Little-endian words.
+pub(crate) fn words<const N: usize>(bytes: &[u8]) -> [u32; N] {
     let mut list = [0; N];
     for (word, b) in list.iter_mut().zip(bytes.chunks_exact(4)) {
         *word = u32::from_le_bytes([b[0], b[1], b[2], b[3]]);

@@ -113,6 +113,183 @@ fn every_refusal_of_base_text() {
     assert_eq!(base_text(&get(0), &odd, 1), Err(Refusal::Sizes));
 }
 
+fn this(frame: u32) -> Binding {
+    Binding { purpose: Use::This, property: 0, frame }
+}
+
+fn get(property: u32) -> Binding {
+    Binding { purpose: Use::Get, property, frame: 0 }
+}
+
+fn set(property: u32) -> Binding {
+    Binding { purpose: Use::Set, property, frame: 0 }
+}
+
+fn named(bindings: &[Binding], table: &Table) -> Vec<String> {
+    let names = make_names(bindings, table).unwrap();
+    assert!(names.text().len() <= names::room(bindings, table));
+    assert_eq!((names.len(), names.is_empty()), (bindings.len(), bindings.is_empty()));
+    // In just the room that they need, and with a byte less each way.
+    let (records, lengths) = (Binding::bytes(bindings), [names.pair_bytes().len(), names.text().len()]);
+    let into = |pairs_lent: usize, text_lent: usize| {
+        let (mut pairs, mut text) = (vec![165; pairs_lent], vec![165; text_lent]);
+        let counts = make_names_into(&records, table, &mut pairs, &mut text);
+        (counts, pairs, text)
+    };
+    let (counts, pairs, text) = into(lengths[0] + 7, lengths[1] + 1);
+    assert_eq!(counts, Ok(NameCounts { pairs: bindings.len(), bytes: lengths[1] }));
+    assert_eq!(pairs, [names.pair_bytes(), &[165; 7]].concat());
+    assert_eq!(text, [names.text().as_bytes(), &[165]].concat());
+    if !bindings.is_empty() {
+        for (less_pairs, less_text) in [(1, 0), (0, 1)] {
+            let (counts, pairs, text) = into(lengths[0] - less_pairs, lengths[1] - less_text);
+            assert_eq!(counts, Err(Refusal::NoRoom));
+            assert!(pairs.iter().chain(&text).all(|byte| *byte == 165));
+        }
+    }
+    let list: Vec<String> = names.iter().map(str::to_string).collect();
+    assert_eq!(list.concat(), names.text());
+    list
+}
+
+#[test]
+fn names_are_numbered_where_they_are_taken() {
+    let mut table = Table::default();
+    assert_eq!(named(&[], &table), [""; 0]);
+    assert_eq!(named(&[this(0), this(1), this(1)], &table), ["_this", "_this2", "_this3"]);
+    let [p, p2, sharp] = ["p", "p2", "\u{df}"].map(|name| table.add_name(name));
+    table.add_name("_this");
+    table.add_name("_this02");
+    table.add_name("_this3");
+    table.add_name("_superprop_getP3");
+    assert_eq!(named(&[this(0), this(1)], &table), ["_this2", "_this4"]);
+    let list = [get(p), get(p2), get(p), get(p), set(sharp), get(0), Binding { purpose: Use::Arguments, ..this(0) }];
+    let wanted = [
+        "_superprop_getP",
+        "_superprop_getP2",
+        "_superprop_getP4",
+        "_superprop_getP5",
+        "_superprop_setSS",
+        "_superprop_get",
+        "_arguments",
+    ];
+    assert_eq!(named(&list, &table), wanted);
+    assert_eq!(named(&[get(p), get(p), get(p2)], &table)[1..], ["_superprop_getP2", "_superprop_getP22"]);
+}
+
+#[test]
+fn the_longest_and_the_most_names() {
+    // A property of 255 bytes, and names that are taken up to a number of 4 digits.
+    let mut table = Table::default();
+    let long = table.add_name(&format!("{}x", "ß".repeat(127)));
+    let list = named(&vec![set(long); 1_200], &table);
+    let base = format!("_superprop_setSS{}x", "ß".repeat(126));
+    assert_eq!((&list[0], base.len()), (&base, 269));
+    assert_eq!(list[1_199], format!("{}1200", base));
+    // As many bindings as may be, as many names as may be, and a number of 5 digits.
+    let mut table = Table::default();
+    table.add_name("_this");
+    for number in 2..=4_096 {
+        table.add_name(&format!("_this{}", number));
+    }
+    let list = named(&vec![this(16_383); 65_535], &table);
+    assert_eq!([&list[0], &list[65_534]], ["_this4097", "_this69631"]);
+    assert_eq!(make_names(&vec![this(0); 65_536], &table), Err(Refusal::Sizes));
+    table.add_name("one more");
+    assert_eq!(make_names(&[], &table), Err(Refusal::Sizes));
+}
+
+#[test]
+fn every_refusal_of_made_names() {
+    let mut table = Table::default();
+    let (greek, a) = (table.add_name("\u{3b1}"), table.add_name("a"));
+    assert_eq!(named(&[get(a)], &table), ["_superprop_getA"]);
+    // 11 and 10 by the binding.
+    assert_eq!(make_names(&[get(a), get(greek), get(3)], &table), Err(Refusal::UnknownLetter { binding: 2 }));
+    assert_eq!(make_names(&[get(a), get(3), get(greek)], &table), Err(Refusal::BadBinding { binding: 2 }));
+    assert_eq!(make_names(&[this(0), this(16_384)], &table), Err(Refusal::BadBinding { binding: 2 }));
+    // 9 behind them.
+    let short = |bindings: &[Binding]| make_names_into(&Binding::bytes(bindings), &table, &mut [], &mut []);
+    assert_eq!(short(&[this(0), get(greek)]), Err(Refusal::UnknownLetter { binding: 2 }));
+    assert_eq!(short(&[this(0)]), Err(Refusal::NoRoom));
+    assert_eq!(short(&[]), Ok(NameCounts { pairs: 0, bytes: 0 }));
+    // 1 and 4 before them, and without a binding too.
+    assert_eq!(make_names_into(&[1; 11], &table, &mut [], &mut []), Err(Refusal::Sizes));
+    table.add_name("");
+    assert_eq!(make_names(&[get(greek)], &table), Err(Refusal::BadName { name: 3 }));
+    assert_eq!(make_names(&[], &table), Err(Refusal::BadName { name: 3 }));
+    let odd = Table::from_bytes(Vec::new(), vec![0; 4], Vec::new());
+    assert_eq!(make_names(&[], &odd), Err(Refusal::Sizes));
+}
+
+#[test]
+fn the_examples_of_the_format_page() {
+    let mut table = Table::default();
+    assert_eq!((table.add_name("_this"), table.add_name("p")), (1, 2));
+    let records = [this(0), get(2), this(4), Binding { frame: 4, ..get(2) }];
+    assert_eq!(named(&records[..1], &table), ["_this2"]);
+    let names = make_names(&records, &table).unwrap();
+    assert_eq!(names.text(), "_this2_superprop_getP_this3_superprop_getP2");
+    let pairs: Vec<u8> = [0u32, 6, 6, 15, 21, 6, 27, 16].iter().flat_map(|word| word.to_le_bytes()).collect();
+    assert_eq!(names.pair_bytes(), pairs);
+    let bad = [Binding { purpose: Use::Arguments, ..this(0) }, Binding { property: 1, ..this(0) }];
+    assert_eq!(make_names(&bad, &table), Err(Refusal::BadBinding { binding: 2 }));
+    let part = |attr, number| {
+        let (names_lent, text) = (table.name_bytes(), table.text_bytes());
+        let part = raw::spelling(attr, number, names_lent, text, &pairs, names.text().as_bytes());
+        [part.refusal, part.start, part.bytes]
+    };
+    assert_eq!([part(0, 2), part(1, 1), part(1, 4)], [[0, 5, 1], [0, 0, 6], [0, 27, 16]]);
+    assert_eq!([part(0, 3), part(1, 0), part(2, 1)], [[raw::NO_SPELLING, 0, 0]; 3]);
+}
+
+#[test]
+fn the_spelling_of_a_row() {
+    // class { async m(_this) { super.p(a); } }, without a name for the class or the method
+    let call = Node::call(Node::member(Node::super_(), "p"), [Node::ident("a")]);
+    let function = Node::function([Node::declarator("_this", None)], [Node::statement(call)]).async_();
+    let class = Node::class(None, [Node::method(function)]).declaration();
+    let table = Table::from_tree(&Node::program([class]));
+    let converted = convert(&Switches::ASYNC, &table).unwrap();
+    let names = converted.names(&table).unwrap();
+    assert_eq!(format!("{:?}", names), r#"["_superprop_getP", "_this2"]"#);
+    assert_eq!([0, 1, 2, 3, u32::MAX].map(|n| names.get(n).is_some()), [false, true, true, false, false]);
+    let mut iter = names.iter();
+    assert_eq!((iter.len(), iter.next(), iter.len()), (2, Some("_superprop_getP"), 1));
+    assert_eq!((iter.next(), iter.next(), iter.next(), iter.len()), (Some("_this2"), None, None, 0));
+    let spelled: Vec<(Kind, &str)> = converted
+        .rows
+        .iter()
+        .filter_map(|row| names.spelling(&table, row).map(|spelled| (row.kind().unwrap(), spelled)))
+        .collect();
+    use Kind::{Declarator, Ident};
+    let wanted = [
+        (Declarator, "_this"),
+        (Declarator, "_superprop_getP"),
+        (Declarator, "_this2"),
+        (Ident, "_superprop_getP"),
+        (Ident, "_this2"),
+        (Ident, "a"),
+    ];
+    assert_eq!(spelled, wanted);
+    // Numbers and attrs that are none, and rows that are not spelled so.
+    let row = |kind: u32, attr, name| Row { kind, attr, name, end: 1 };
+    assert_eq!(names.spelling(&table, &row(11, 0, 1)), Some("_this"));
+    for (attr, name) in [(0, 0), (0, 4), (1, 0), (1, 3), (2, 1), (u32::MAX, 1), (1, u32::MAX)] {
+        assert_eq!(names.spelling(&table, &row(11, attr, name)), None);
+    }
+    for kind in [0, 8, 12, 17, 20, 99] {
+        assert_eq!(names.spelling(&table, &row(kind, 0, 1)), None);
+    }
+    // Over another table: what is no text is not spelled.
+    let other = Table::from_bytes(
+        Vec::new(),
+        [[0u32, 1], [0, 3], [1, 0]].concat().iter().flat_map(|w| w.to_le_bytes()).collect(),
+        vec![0xFF],
+    );
+    assert_eq!([1, 2, 3].map(|n| names.spelling(&other, &row(11, 0, n))), [None, None, Some("")]);
+}
+
 #[test]
 fn refusals_have_numbers_and_words() {
     for number in 1..13 {

@@ -1,5 +1,5 @@
-/* Compiled and run by tests/header.rs: the worked example through include/thawcopper.h, by each entry, and a table that
- * only the print room takes. Prints `ok`. */
+/* Compiled and run by tests/header.rs: the worked example through include/thawcopper.h, by each entry, a table that
+ * only the print room takes, and names of which one is taken. Prints `ok`. */
 #include "thawcopper.h"
 
 #include <stdio.h>
@@ -29,6 +29,87 @@ static int is(const char *what, thawcopper_answer answer, uint32_t refusal, uint
     }
     printf("%s: answer %u %u %u %u\n", what, answer.refusal, answer.place, answer.rows, answer.bindings);
     return 0;
+}
+
+static int named(const char *what, thawcopper_named answer, uint32_t refusal, uint32_t place, uint32_t pairs,
+                 uint32_t bytes) {
+    if (answer.refusal == refusal && answer.place == place && answer.pairs == pairs && answer.bytes == bytes) {
+        return 1;
+    }
+    printf("%s: named %u %u %u %u\n", what, answer.refusal, answer.place, answer.pairs, answer.bytes);
+    return 0;
+}
+
+static int part(const char *what, thawcopper_part answer, uint32_t refusal, uint32_t start, uint32_t bytes) {
+    if (answer.refusal == refusal && answer.start == start && answer.bytes == bytes) {
+        return 1;
+    }
+    printf("%s: part %u %u %u\n", what, answer.refusal, answer.start, answer.bytes);
+    return 0;
+}
+
+/* Names for two captures of `this` and a get accessor, where the script has `_this` and `plot`. */
+static int names(void) {
+    static const uint32_t bindings[] = {THAWCOPPER_USE_THIS, 0, 0, THAWCOPPER_USE_THIS, 0, 3, THAWCOPPER_USE_GET, 2, 3};
+    static const uint32_t pairs[] = {0, 5, 5, 4}, made[] = {0, 6, 6, 6, 12, 18};
+    static const char text[] = "_thisplot", wanted[] = "_this2_this3_superprop_getPlot";
+    uint8_t records[sizeof bindings], listed[sizeof pairs], expected[sizeof made], out_pairs[32], out_text[64];
+    size_t count = put(records, bindings, sizeof bindings / sizeof *bindings);
+    size_t names_len = put(listed, pairs, sizeof pairs / sizeof *pairs);
+    size_t made_len = put(expected, made, sizeof made / sizeof *made);
+    const uint8_t *script = (const uint8_t *)text;
+    size_t script_len = sizeof text - 1, length = sizeof wanted - 1;
+    memset(out_pairs, 165, sizeof out_pairs);
+    memset(out_text, 165, sizeof out_text);
+
+    thawcopper_named answer = thawcopper_make_names(records, count, listed, names_len, script, script_len, out_pairs,
+                                                    made_len, out_text, length - 1);
+    if (!named("no room for text", answer, THAWCOPPER_NO_ROOM, 0, 0, 0)) {
+        return 0;
+    }
+    answer = thawcopper_make_names(records, count, listed, names_len, script, script_len, out_pairs, made_len - 1,
+                                   out_text, length);
+    if (!named("no room for pairs", answer, THAWCOPPER_NO_ROOM, 0, 0, 0)) {
+        return 0;
+    }
+    if (out_pairs[0] != 165 || out_text[0] != 165) {
+        printf("a refusal writes\n");
+        return 0;
+    }
+    answer = thawcopper_make_names(records, count, listed, names_len, script, script_len, out_pairs, sizeof out_pairs,
+                                   out_text, sizeof out_text);
+    if (!named("names", answer, THAWCOPPER_ACCEPTED, 0, 3, (uint32_t)length)) {
+        return 0;
+    }
+    if (memcmp(out_pairs, expected, made_len) != 0 || out_pairs[made_len] != 165 ||
+        memcmp(out_text, wanted, length) != 0 || out_text[length] != 165) {
+        printf("the made names differ\n");
+        return 0;
+    }
+    records[24] = 7;
+    answer = thawcopper_make_names(records, count, listed, names_len, script, script_len, out_pairs, 0, out_text, 0);
+    if (!named("a record", answer, THAWCOPPER_BAD_BINDING, 3, 0, 0)) {
+        return 0;
+    }
+
+    static const struct {
+        uint32_t attr, number, refusal, start, bytes;
+    } calls[] = {{0, 1, 0, 0, 5},
+                 {0, 2, 0, 5, 4},
+                 {0, 3, THAWCOPPER_NO_SPELLING, 0, 0},
+                 {1, 0, THAWCOPPER_NO_SPELLING, 0, 0},
+                 {1, 2, 0, 6, 6},
+                 {1, 3, 0, 12, 18},
+                 {1, 4, THAWCOPPER_NO_SPELLING, 0, 0},
+                 {2, 1, THAWCOPPER_NO_SPELLING, 0, 0}};
+    for (size_t i = 0; i < sizeof calls / sizeof *calls; i++) {
+        thawcopper_part found = thawcopper_spelling(calls[i].attr, calls[i].number, listed, names_len, script,
+                                                    script_len, out_pairs, made_len, out_text, length);
+        if (!part("spelling", found, calls[i].refusal, calls[i].start, calls[i].bytes)) {
+            return 0;
+        }
+    }
+    return 1;
 }
 
 int main(void) {
@@ -69,6 +150,17 @@ int main(void) {
     spelled = thawcopper_base_text(2, out_bindings, 12, none, 0, none, 0, (uint8_t *)text, sizeof text);
     if (spelled.refusal != THAWCOPPER_BAD_BINDING || spelled.place != 2 || spelled.bytes != 0) {
         printf("base text %u %u %u\n", spelled.refusal, spelled.place, spelled.bytes);
+        return 1;
+    }
+    uint8_t pair[8];
+    thawcopper_named answered = thawcopper_make_names(out_bindings, 12, none, 0, none, 0, pair, sizeof pair,
+                                                      (uint8_t *)text, sizeof text);
+    if (!named("the name", answered, THAWCOPPER_ACCEPTED, 0, 1, 5) || memcmp(text, "_this", 5) != 0) {
+        return 1;
+    }
+    /* The last row of the result is an Ident with attr 1 and name 1. */
+    thawcopper_part found = thawcopper_spelling(1, 1, none, 0, none, 0, pair, sizeof pair, (uint8_t *)text, 5);
+    if (!part("the spelling", found, THAWCOPPER_ACCEPTED, 0, 5) || !names()) {
         return 1;
     }
     answer = thawcopper_convert(1, 0, 0, rows, length, none, 0, none, 0, out_rows, result - 1, out_bindings, 12);

@@ -2,6 +2,7 @@
 // the stored ones. The input's head comment describes its form. A call that differs has a line of its own; the last line counts both.
 use thawcopper::Spelled;
 use vectors::input;
+use vectors::lent;
 use vectors::runs;
 use vectors::runs::Built;
 use vectors::tally::Tally;
@@ -14,29 +15,11 @@ ghost use mathlib.Core.Path.{_≡_};
 ghost use Prim.Native.Nat.{_+_, _≤_, _<_};
 ghost use lib.ListN.{length};
 
-// What stands in the bytes lent before the call.
-const BEFORE: u8 = 0xAA;
-
-// Room for one record above the limit.
-fn record_room() -> [u8; 786448]
-    ensures { λ r. ⌜ 786448 ≡ length r ⌝ }
-{
-    [0; 786448]
-}
-
 // The bytes that can be lent.
 fn out_room() -> [u8; 512]
     ensures { λ r. ⌜ 512 ≡ length r ⌝ }
 {
     [0; 512]
-}
-
-fn fill(out: &mut [u8]) {
-    let mut i: usize = 0;
-    while i < out.len() {
-        runs::put(out, i, BEFORE);
-        i += 1;
-    }
 }
 
 // The stored byte, the low one of a word.
@@ -55,7 +38,7 @@ fn wanted(words: &[u32], at: usize, count: usize, i: usize) -> u8
     if i < count {
         return low(input::word(words, at + i));
     }
-    BEFORE
+    lent::BEFORE
 }
 
 fn same_bytes(out: &[u8], words: &[u32], at: usize, count: usize) -> bool
@@ -140,7 +123,7 @@ fn call(
 {
     let number = input::word(words, from + 1);
     let want = stored(words, b.at);
-    fill(out);
+    lent::fill(out);
     let got = run(number, records, pairs, text, b, out);
     let bytes = same_bytes(out, words, b.at + 3, want.bytes as usize);
     compared(n, got, want, bytes)
@@ -205,7 +188,7 @@ fn replay(words: &[u32], count: usize) -> Tally
     requires { ⌜ count ≤ 65536 ⌝ }
     ensures { λ r. ⌜ (r .cases ≤ 65536) × (r .differ ≤ 65536) ⌝ }
 {
-    let mut records = record_room();
+    let mut records = runs::record_room();
     let mut pairs = runs::pair_room();
     let mut text = runs::text_room();
     let mut out = out_room();

@@ -3,6 +3,7 @@
 // the last line counts both.
 use thawcopper::Answer;
 use vectors::input;
+use vectors::lent;
 use vectors::runs;
 use vectors::runs::Built;
 use vectors::runs::Part;
@@ -15,9 +16,6 @@ use vectors::tally::whole;
 ghost use mathlib.Core.Path.{_≡_};
 ghost use Prim.Native.Nat.{_+_, _≤_, _<_};
 ghost use lib.ListN.{length};
-
-// What stands in the bytes lent before the call.
-const BEFORE: u8 = 165;
 
 const ROW_ROOM: usize = 270336;
 
@@ -51,40 +49,11 @@ fn record_room() -> [u8; 65536]
     [0; RECORD_ROOM]
 }
 
-fn fill(out: &mut [u8]) {
-    let mut i: usize = 0;
-    while i < out.len() {
-        runs::put(out, i, BEFORE);
-        i += 1;
-    }
-}
-
 fn same_numbers(got: Answer, want: Answer) -> bool {
     (got.refusal == want.refusal)
         & (got.place == want.place)
         & (got.rows == want.rows)
         & (got.bindings == want.bindings)
-}
-
-// The byte that is to stand at i: one of the first `count` of the result's, or what stood there before.
-fn wanted(result: &[u8], count: usize, i: usize) -> u8 {
-    if i < count {
-        if i < result.len() {
-            return result[i];
-        }
-    }
-    BEFORE
-}
-
-fn same_bytes(out: &[u8], result: &[u8], count: usize) -> bool {
-    let mut i: usize = 0;
-    while i < out.len() {
-        if out[i] != wanted(result, count, i) {
-            return false;
-        }
-        i += 1;
-    }
-    true
 }
 
 // The stored answer, four words from `at` on.
@@ -196,11 +165,11 @@ fn converted(
 ) -> usize
     ensures { λ r. ⌜ r ≤ 1 ⌝ }
 {
-    fill(out_rows);
-    fill(out_records);
+    lent::fill(out_rows);
+    lent::fill(out_records);
     let got = run(a, table, pairs, text, b, out_rows, out_records);
-    let same_rows = same_bytes(out_rows, rows, want.rows);
-    let same_records = same_bytes(out_records, records, want.records);
+    let same_rows = lent::same_bytes(out_rows, rows, want.rows);
+    let same_records = lent::same_bytes(out_records, records, want.records);
     compared(n, got, want.answer, same_rows, same_records)
 }
 

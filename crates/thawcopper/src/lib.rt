@@ -6,15 +6,20 @@ use answer::Converted;
 use base_text::Refusal;
 use base_text::Spelling;
 use converter::convert;
+use lookup::part_of;
+use made_names::Naming;
+use made_names::make_names;
 ghost use mathlib.Core.Path.{_≡_};
 ghost use mathlib.Core.Bool.{false};
 ghost use Prim.Native.Nat.{ℕ, _<_, _^_};
 ghost use lib.ListN.{length};
 ghost use Rattle.base_text.specs.Refusals.{numberOf, placeOf, answerNumber, answerPlace, countOf, baseText, spelled};
+ghost use Rattle.candidates.specs.MadeNames.{madeNames};
+ghost use Rattle.made_names.specs.Naming.{namingNumber, namingPlace, pairCount, byteCount, named};
 ghost use Rattle.answer.specs.Answer as answers;
 ghost use Rattle.answer.specs.Converting.{Converts};
 ghost use Rattle.acts.specs.View.{switchesOf};
-ghost use Rattle.thawcopper.specs.Entries.{BaseTextAnswered, switchesFrom, onTablet, switchesIn};
+ghost use Rattle.thawcopper.specs.Entries.{BaseTextAnswered, NamesAnswered, PartAnswered, switchesFrom, onTablet, switchesIn};
 
 // What base text answers: the request's number and place, and how many bytes were written.
 #[repr(C)]
@@ -71,6 +76,89 @@ pub extern "C" fn thawcopper_base_text(
         (baseText number (now (bindings .entry)) (now (names .entry)) (now (text .entry))) (now (out .entry)) (now (out .exit)) ⌝ }
 {
     numbers_of(base_text::base_text(number, bindings, names, text, out))
+}
+
+// What the maker of names answers: the request's number and place, and how many pairs and bytes were
+// written.
+#[repr(C)]
+pub struct Named {
+    pub refusal: u32,
+    pub place: u32,
+    pub pairs: u32,
+    pub bytes: u32,
+}
+
+fn named_as(refusal: u32, place: u32, pairs: u32, bytes: u32) -> Named
+    ensures { λ r. ⌜ (r .refusal ≡ refusal) × (r .place ≡ place) × (r .pairs ≡ pairs) × (r .bytes ≡ bytes) ⌝ }
+{
+    Named {
+        refusal,
+        place,
+        pairs,
+        bytes,
+    }
+}
+
+// The request's numbers of an answer.
+fn numbers_of_naming(answer: Naming) -> Named
+    ensures { λ r. ⌜ (r .refusal ≡ namingNumber answer) × (r .place ≡ namingPlace answer) × (r .pairs ≡ pairCount answer) × (r .bytes ≡ byteCount answer) ⌝ }
+{
+    match answer {
+        Naming::Made { pairs, bytes } => named_as(0, 0, pairs, bytes),
+        Naming::Refused(refusal) => {
+            let numbers = numbers_of_refusal(refusal);
+            named_as(numbers.refusal, numbers.place, 0, 0)
+        }
+    }
+}
+
+// Writes the name of each binding: its bytes to the front of `out_text`, where it starts and how long it
+// is to the front of `out_pairs`.
+#[no_mangle]
+pub extern "C" fn thawcopper_make_names(
+    bindings: &[u8],
+    names: &[u8],
+    text: &[u8],
+    out_pairs: &mut [u8],
+    out_text: &mut [u8],
+) -> Named
+    ensures { λ r. ⌜ NamesAnswered (r .refusal) (r .place) (r .pairs) (r .bytes)
+        (named (now (bindings .entry)) (now (names .entry)) (now (text .entry)) (length (now («out_pairs» .entry))) (length (now («out_text» .entry))))
+        (madeNames (now (bindings .entry)) (now (names .entry)) (now (text .entry)))
+        (now («out_pairs» .entry)) (now («out_pairs» .exit)) (now («out_text» .entry)) (now («out_text» .exit)) ⌝ }
+{
+    numbers_of_naming(make_names(bindings, names, text, out_pairs, out_text))
+}
+
+// What the spelling of an Ident answers: 18 or 0, and where its part starts and how long it is.
+#[repr(C)]
+pub struct Part {
+    pub refusal: u32,
+    pub start: u32,
+    pub bytes: u32,
+}
+
+// The spelling of an Ident of that attr and number, as a part of `text` (attr 0) or of `made_text`
+// (attr 1). An exported function can't hand back a part itself, so where it starts and how long it is are told.
+#[no_mangle]
+pub extern "C" fn thawcopper_spelling(
+    attr: u32,
+    number: u32,
+    names: &[u8],
+    text: &[u8],
+    made_pairs: &[u8],
+    made_text: &[u8],
+) -> Part
+    ensures { λ r. ⌜ PartAnswered attr number (now (names .entry)) (now (text .entry)) (now («made_pairs» .entry)) (now («made_text» .entry)) (r .refusal) (r .start) (r .bytes) ⌝ }
+{
+    let part = part_of(attr, number, names, text, made_pairs, made_text);
+    let start = part.start as u32;
+    let bytes = part.bytes as u32;
+    Part {
+        refusal: part.refusal(),
+        start,
+        bytes,
+    }
 }
 
 // What convert answers: the request's number and place, and how many rows and bindings were written.

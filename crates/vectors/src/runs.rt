@@ -13,6 +13,13 @@ const PAIR_ROOM: usize = 32832;
 
 const TEXT_ROOM: usize = 65552;
 
+// Room for one record above the limit.
+pub fn record_room() -> [u8; 786448]
+    ensures { λ r. ⌜ 786448 ≡ length r ⌝ }
+{
+    [0; MOST_ROOM]
+}
+
 // Room for eight names above the limit.
 pub fn pair_room() -> [u8; 32832]
     ensures { λ r. ⌜ 32832 ≡ length r ⌝ }
@@ -289,6 +296,29 @@ fn part_with_zeros(words: &[u32], from: usize, out: &mut [u8], room: usize, widt
     }
 }
 
+// Names that were built: the bytes of their pairs and of their text, and the word after them.
+pub struct Names {
+    pub good: bool,
+    pub pairs: usize,
+    pub text: usize,
+    pub at: usize,
+}
+
+// Builds the names whose words start at `from`: pairs with zero bytes behind them, and the text.
+pub fn build_names(words: &[u32], from: usize, pairs: &mut [u8], text: &mut [u8]) -> Names
+    requires { ⌜ from ≤ 68719476736 ⌝ }
+    ensures { λ r. ⌜ (from < r .at) × (r .at ≤ from + 68719476737) ⌝ }
+{
+    let p = part_with_zeros(words, from, pairs, PAIR_ROOM, 2);
+    let t = runs(words, p.at, text, TEXT_ROOM, 1);
+    Names {
+        good: p.good & t.good,
+        pairs: p.len,
+        text: t.len,
+        at: t.at,
+    }
+}
+
 // A case that was built: the bytes of its three parts, and the word after them.
 pub struct Built {
     pub good: bool,
@@ -312,14 +342,13 @@ pub fn build(
     ensures { λ r. ⌜ (from < r .at) × (r .at ≤ 1099511627776) ⌝ }
 {
     let f = part_with_zeros(words, from, first, least(first.len(), MOST_ROOM), width);
-    let p = part_with_zeros(words, f.at, pairs, PAIR_ROOM, 2);
-    let t = runs(words, p.at, text, TEXT_ROOM, 1);
+    let n = build_names(words, f.at, pairs, text);
     Built {
-        good: f.good & p.good & t.good,
+        good: f.good & n.good,
         first: f.len,
-        pairs: p.len,
-        text: t.len,
-        at: t.at,
+        pairs: n.pairs,
+        text: n.text,
+        at: n.at,
     }
 }
 

@@ -1,11 +1,13 @@
 //! How long a conversion takes: the library through its C entry, beside the reference on boxed trees, and beside a plain
-//! copy of the rows, which no conversion can go below.
+//! copy of the rows, which no conversion can go below. And how long it takes to name bindings.
 //!
 //!   bash tools/host.sh bench            what is lent stays as it is between calls
 //!   bash tools/host.sh bench cleared    what is lent is set to 0 before each call, in the time of the library and of the
 //!                                       copy; the reference allocates its result, as ever
 //!   bash tools/host.sh bench ample      as much room for rows as `thawcopper::convert` lends, in which the library need not
 //!                                       count them first
+//!
+//!   bash tools/host.sh bench names      made names and base text alone
 //!
 //!   bash tools/host.sh bench profile SHAPE MODE    the library alone for 3 seconds, or for as many calls as the variable CALLS
 //!                                       says, for a profiler; SHAPE is `script`, `small`, `deep`, `functions`, `methods`,
@@ -17,6 +19,7 @@
 //! of the result.
 //! Time is the thread's own processor time (Linux), so that other work on the machine counts less.
 
+mod names;
 mod shapes;
 
 use std::hint::black_box;
@@ -94,17 +97,18 @@ fn now() -> i64 {
     time.seconds * 1_000_000_000 + time.nanoseconds
 }
 
-/// Nanoseconds of one call, from as many as take about 2 milliseconds.
-fn run(lent: &mut Lent, switches: Switches, calls: u32, one: fn(&mut Lent, Switches)) -> f64 {
+/// Nanoseconds of one call, from so many.
+fn run<T>(lent: &mut T, calls: u32, one: impl Fn(&mut T)) -> f64 {
     let start = now();
     for _ in 0..calls {
-        one(lent, black_box(switches));
+        one(black_box(lent));
     }
     (now() - start) as f64 / f64::from(calls)
 }
 
-fn calls_for(lent: &mut Lent, switches: Switches, one: fn(&mut Lent, Switches)) -> u32 {
-    let once = run(lent, switches, 3, one);
+/// As many calls as take about 2 milliseconds.
+fn calls_for<T>(lent: &mut T, one: impl Fn(&mut T)) -> u32 {
+    let once = run(lent, 3, one);
     (2e6 / once.max(1.0)).clamp(1.0, 1e6) as u32
 }
 
@@ -166,11 +170,12 @@ fn measure(what: &str, table: Table, way: Way, all: &mut Vec<Measured>) {
             cleared: way.cleared,
         };
         let ways: [fn(&mut Lent, Switches); 3] = [Lent::library, Lent::reference, Lent::copy];
-        let calls = ways.map(|one| calls_for(&mut lent, switches, one));
+        let calls = ways.map(|one| calls_for(&mut lent, |lent| one(lent, black_box(switches))));
         let mut times = [Vec::new(), Vec::new(), Vec::new()];
         for _ in 0..ROUNDS {
             for way in 0..3 {
-                times[way].push(run(&mut lent, switches, calls[way], ways[way]) / count as f64);
+                let one = ways[way];
+                times[way].push(run(&mut lent, calls[way], |lent| one(lent, black_box(switches))) / count as f64);
             }
         }
         let ratio = |over: usize| spread((0..ROUNDS).map(|n| times[0][n] / times[over][n]).collect());
@@ -234,6 +239,9 @@ fn main() {
             return profile(shape, mode);
         }
     }
+    if arguments == ["names"] {
+        return names::measure();
+    }
     let way = Way {
         cleared: arguments.iter().any(|word| word == "cleared"),
         ample: arguments.iter().any(|word| word == "ample"),
@@ -262,12 +270,20 @@ fn main() {
     goals(&all);
     println!("\nnames made to share one bucket of the library's, for which there is no goal:");
     measure("5,459 reads of 2,048 accessors", shapes::one_bucket(), way, &mut all);
+    names::measure();
+}
+
+fn told(met: bool) -> &'static str {
+    if met {
+        "met"
+    } else {
+        "MISSED"
+    }
 }
 
 /// The goals, and whether they are met.
 fn goals(all: &[Measured]) {
     println!();
-    let told = |met: bool| if met { "met" } else { "MISSED" };
     let slower: Vec<String> = all
         .iter()
         .filter(|m| m.by_reference[0] > 1.0)

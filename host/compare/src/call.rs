@@ -5,6 +5,8 @@ use std::panic::{catch_unwind, AssertUnwindSafe};
 use thawcopper::{raw, Binding, Converted, Options, Row, Switches};
 use thawcopper_reference as reference;
 
+use crate::names::MadeNames;
+
 /// Bytes of a table.
 #[derive(Clone)]
 pub struct Table {
@@ -108,7 +110,7 @@ impl Lent {
         Lent { pattern: Vec::new(), buffer: Vec::new(), length: 0 }
     }
 
-    fn lend(&mut self, length: usize) -> &mut [u8] {
+    pub fn lend(&mut self, length: usize) -> &mut [u8] {
         let whole = length + 2 * GUARD;
         while self.pattern.len() < whole {
             // No word of it is a likely one, and no two rows of it are alike.
@@ -124,12 +126,12 @@ impl Lent {
     }
 
     /// What was lent.
-    fn lent(&self) -> &[u8] {
+    pub fn lent(&self) -> &[u8] {
         &self.buffer[GUARD..GUARD + self.length]
     }
 
     /// Whether the front is this, and all else the pattern.
-    fn holds(&self, front: &[u8]) -> bool {
+    pub fn holds(&self, front: &[u8]) -> bool {
         let whole = self.length + 2 * GUARD;
         let behind = GUARD + front.len();
         self.buffer[..GUARD] == self.pattern[..GUARD]
@@ -153,6 +155,12 @@ pub struct Tally {
     pub tablet_calls: u64,
     pub tablet_accepted: u64,
     pub tablet_refused: u64,
+    /// Calls that make names; and the names of those that were accepted.
+    pub names_calls: u64,
+    pub names: u64,
+    /// Spellings that were looked up; how many there are none of.
+    pub spellings: u64,
+    pub no_spellings: u64,
 }
 
 impl Tally {
@@ -167,6 +175,10 @@ impl Tally {
         self.tablet_calls += more.tablet_calls;
         self.tablet_accepted += more.tablet_accepted;
         self.tablet_refused += more.tablet_refused;
+        self.names_calls += more.names_calls;
+        self.names += more.names;
+        self.spellings += more.spellings;
+        self.no_spellings += more.no_spellings;
     }
 }
 
@@ -187,6 +199,7 @@ impl Caller {
 pub struct Comparer {
     print_room: Caller,
     tablet: Caller,
+    names: MadeNames,
     pub tally: Tally,
 }
 
@@ -197,7 +210,7 @@ pub struct Room {
     pub bindings: usize,
 }
 
-/// Which settings of a table are called as a tablet too.
+/// Which settings of a table are called as a tablet too, and have the names of their bindings compared.
 #[derive(Clone, Copy, PartialEq)]
 pub enum Tablet {
     Each,
@@ -254,7 +267,7 @@ impl Comparer {
     /// As if that many tables had been compared before, which is what turns go by.
     pub fn after(tables: u64) -> Comparer {
         let tally = Tally { tables, ..Tally::default() };
-        Comparer { print_room: Caller::new(), tablet: Caller::new(), tally }
+        Comparer { print_room: Caller::new(), tablet: Caller::new(), names: MadeNames::new(), tally }
     }
 
     /// One call on each side, with that room.
@@ -301,7 +314,7 @@ impl Comparer {
     /// print room's numbers and bytes.
     fn as_tablet(&mut self, entry: Entry, input: &Input, room: Room) -> Result<(), Difference> {
         self.one(entry, input, room)?;
-        let Comparer { print_room, tablet, tally } = self;
+        let Comparer { print_room, tablet, tally, .. } = self;
         let same = tablet.told == print_room.told
             && tablet.rows.lent() == print_room.rows.lent()
             && tablet.bindings.lent() == print_room.bindings.lent();
@@ -318,10 +331,20 @@ impl Comparer {
         ))
     }
 
-    /// Where the rows of the result come from that was written last, in just the room that it needs.
-    fn origins(&mut self, switches: Switches, input: &Input, wanted: &[Option<u32>]) -> Result<(), Difference> {
+    /// The result that was written last, in just the room that it needs.
+    fn converted(&self) -> Converted {
         let rows = Row::list(self.print_room.rows.lent());
-        let converted = Converted { rows, bindings: Binding::list(self.print_room.bindings.lent()) };
+        Converted { rows, bindings: Binding::list(self.print_room.bindings.lent()) }
+    }
+
+    /// Where its rows come from.
+    fn origins(
+        &mut self,
+        switches: Switches,
+        input: &Input,
+        converted: &Converted,
+        wanted: &[Option<u32>],
+    ) -> Result<(), Difference> {
         self.tally.origins += 1;
         let told = |what: String| Err(format!("{:?}: {}", switches, what));
         let got = match catch_unwind(AssertUnwindSafe(|| converted.origins(&input.table))) {
@@ -359,7 +382,7 @@ impl Comparer {
     }
 
     /// A table in one setting: what the reference answers where there is room for all, then less and more room; and as
-    /// a tablet too, or not.
+    /// a tablet too, with the names of the bindings, or not.
     pub fn setting(
         &mut self,
         switches: Switches,
@@ -385,7 +408,15 @@ impl Comparer {
         };
         self.against(entry(0), input, exact, &wanted)?;
         if wanted.is_ok() {
-            self.origins(switches, input, &origins)?;
+            let converted = self.converted();
+            self.origins(switches, input, &converted, &origins)?;
+            if tablet {
+                let bindings = self.print_room.bindings.lent();
+                self.names.of_result(&converted, bindings, &input.table, turns, &mut self.tally)?;
+                if !input.untouched() {
+                    return Err(format!("{:?}: the table was written to as names were made", switches));
+                }
+            }
         }
         if tablet {
             self.as_tablet(Entry::tablet(switches, turns), input, exact)?;

@@ -1,6 +1,6 @@
 //! Compares the library, over its C boundary, with the reference: every number returned and every byte lent, as the
-//! print room and as a tablet; what a tablet accepts with what the print room gets; and where the rows of each result
-//! come from, as the package finds it.
+//! print room and as a tablet; what a tablet accepts with what the print room gets; where the rows of each result come
+//! from, as the package finds it; and the names of bindings, with how the rows of a result are spelled by them.
 //!
 //!   compare                     the fixed seed's run, which the gate makes
 //!   compare long SEED MINUTES   random tables from another seed, for about so many minutes
@@ -14,6 +14,8 @@ mod all;
 mod call;
 mod families;
 mod grammar;
+mod name_lists;
+mod names;
 mod random;
 mod small;
 mod stored;
@@ -23,6 +25,7 @@ use std::time::{Duration, Instant};
 
 use call::{Rooms, Tally};
 use families::*;
+use name_lists::made_names;
 
 const SEED: u64 = 20_261_116;
 
@@ -58,6 +61,10 @@ impl Total {
             self.0.tablet_calls, self.0.tablet_accepted, self.0.tablet_refused
         );
         println!("origins of the rows of {} results compared, 0 differ", origins);
+        println!(
+            "{} of the calls made names, {} in all; {} spellings looked up, {} of them none",
+            self.0.names_calls, self.0.names, self.0.spellings, self.0.no_spellings
+        );
         let refused: Vec<String> = (1..12).map(|n| format!("{}: {}", n, answers[n])).collect();
         println!("refused by number: {}", refused.join(", "));
     }
@@ -65,6 +72,7 @@ impl Total {
 
 fn fixed(total: &mut Total) {
     total.add("base text", || base_texts(SEED, 100_000));
+    total.add("made names", || made_names(SEED + 7, 20_000));
     total.add("names as UTF-8", || all_utf8(0));
     total.add("all ends", || all_ends(0));
     total.add("all lists of children", || all_children(0));
@@ -102,6 +110,7 @@ fn long(total: &mut Total, seed: u64, minutes: u64) {
         total.add("damaged copies", || damaged_tables(seed + 4, 5_000, 40));
         total.add("both sides of each limit", || limits(seed + 5, 4));
         total.add("base text", || base_texts(seed + 6, 50_000));
+        total.add("made names", || made_names(seed + 8, 50_000));
     }
 }
 

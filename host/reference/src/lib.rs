@@ -6,7 +6,8 @@
 //! traversal with enter and exit, and the Rust's stacks. So where the request says "from a This outward" in one
 //! sentence, this has what the Rust does, and the two readings check each other. `tree` is the tree between, `build`
 //! makes it from rows and `lay` lays it out again. Each node of the tree keeps the row that it was read from, so that
-//! `lay` can tell where each row of a result comes from.
+//! `lay` can tell where each row of a result comes from. `base_text` is module 2, and `made_names` the names of bindings
+//! and the spelling of an Ident (change request No. 2).
 //!
 //! ```text
 //! rows, names, text -> table::read -> owners::check -> build -> converter -> lay -> rows
@@ -17,12 +18,14 @@ mod base_text;
 mod build;
 mod converter;
 mod lay;
+mod made_names;
 mod owners;
 mod table;
 mod tree;
 
 pub use base_text::base_text;
 pub use converter::Mode;
+pub use made_names::{made, make_names, spelling, Made};
 
 /// The three switches.
 #[derive(Clone, Copy, Debug, PartialEq, Eq)]

@@ -1,10 +1,10 @@
--- `replay_convert::fill` stays within the bytes lent.
+-- `vectors::lent::fill` stays within the bytes lent.
 use Prim.Native.Nat.{_-_, _≤_}
 use mathlib.Core.Path.{_≡_}
 use lib.ListN.{length}
 use borrow.Author.Needs.{needs}
-use Rattle.replay_convert.proofs.fill.Statement.{statement}
-use Rattle.replay_convert.proofs.fill.Tie as tie
+use Rattle.vectors.proofs.lent.fill.Statement.{statement}
+use Rattle.vectors.proofs.lent.fill.Tie as tie
 
 abbrev Inv-loop : tie.InvT-loop
 Inv-loop out₀ i₀ out i = (i ≤ length out) × (length out ≡ length out₀)

@@ -1,10 +1,10 @@
--- `replay_convert::same_bytes` stays within the bytes lent.
+-- `vectors::lent::same_bytes` stays within the bytes lent.
 use Prim.Native.Nat.{_-_, _≤_}
 use mathlib.Core.Path.{_≡_}
 use lib.ListN.{length}
 use borrow.Author.Needs.{needs}
-use Rattle.replay_convert.proofs.same_bytes.Statement.{statement}
-use Rattle.replay_convert.proofs.same_bytes.Tie as tie
+use Rattle.vectors.proofs.lent.same_bytes.Statement.{statement}
+use Rattle.vectors.proofs.lent.same_bytes.Tie as tie
 
 abbrev Inv-loop : tie.InvT-loop
 Inv-loop out result count i₀ i = i ≤ length out
