@@ -58,7 +58,8 @@ same-length-2 c = search needs
 
 returns-2 : tie.Need-returns-2
 returns-2 c =
-    numbered-name (omega (arith, c .before .before .before .before .if1 .left)) (spelt (marked (c .before .before .before .before .before .before .before)) .spell .ensures) (marked (c .before .before .before .before .before .before .before) .put-byte .ensures)
+    numbered-name (omega (arith, c .before .before .before .before .if1 .left)) (spelt (marked (c .before .before .before .before .before .before .before)) .spell .ensures)
+    (marked (c .before .before .before .before .before .before .before) .put-byte .ensures)
     (c .before .before .before .before .before .before .before .put-bytes .ensures) (c .before .before .put-number .ensures .0) (c .before .before .put-number .ensures .1)
 
 pub put-candidate-spec : {M : Type 1} → statement M

@@ -7,7 +7,9 @@ use Rattle.replay_names.proofs.replay.Statement.{statement}
 use Rattle.replay_names.proofs.replay.Tie as tie
 
 abbrev Inv-loop : tie.InvT-loop
-Inv-loop words count records₀ pairs₀ text₀ made-pairs₀ made-text₀ out-pairs₀ out-text₀ at₀ cases₀ differ₀ records pairs text made-pairs made-text out-pairs out-text at cases differ = (length records ≡ 786448) × (length pairs ≡ 32832) × (length text ≡ 65552) × (length made-pairs ≡ 32832) × (length made-text ≡ 65552) × (length out-pairs ≡ 524288) × (length out-text ≡ 524288) × (at ≤ count) × (cases ≤ at) × (differ ≤ cases)
+Inv-loop words count records₀ pairs₀ text₀ made-pairs₀ made-text₀ out-pairs₀ out-text₀ at₀ cases₀ differ₀ records pairs text made-pairs made-text out-pairs out-text at cases differ =
+    (length records ≡ 786448) × (length pairs ≡ 32832) × (length text ≡ 65552) × (length made-pairs ≡ 32832) × (length made-text ≡ 65552) × (length out-pairs ≡ 524288) × (length out-text ≡ 524288)
+    × (at ≤ count) × (cases ≤ at) × (differ ≤ cases)
 
 abbrev μ-loop : tie.MeasureT-loop
 μ-loop words count records₀ pairs₀ text₀ made-pairs₀ made-text₀ out-pairs₀ out-text₀ at₀ cases₀ differ₀ records pairs text made-pairs made-text out-pairs out-text at cases differ = count - at
