@@ -7,6 +7,7 @@ use Rattle.base_text.specs.Bindings.{recordsIn}
 use Rattle.base_text.specs.Refusals.{frontOf, faultOf}
 use Rattle.base_text.specs.declared.Tested.{Tested}
 
+-- the first of two faults
 abbrev pub orElse : Tested → Tested → Tested
 orElse Tested.Passed other = other
 orElse (Tested.Refused refusal) other = Tested.Refused refusal
@@ -24,7 +25,7 @@ pub record Sound (bindings names text : List ℕ) : Type 0 where
   pub front : frontOf bindings names text ≡ Tested.Passed
   pub faults : firstFault bindings names text ≡ Tested.Passed
 
--- the bytes s stand at the front of `out`, and are r
+-- Of the code: the base text s stands at the front of `out`, and has r bytes.
 pub record Stands (s : List ℕ) (r : ℕ) (out : List ℕ) : Type 0 where
   pub counted : r ≡ length s
   pub front : take r out ≡ s

@@ -39,7 +39,7 @@ partOf pairs text number = take (bytesIn pairs text number) (drop (startIn pairs
 abbrev pub spellingOf : (attr number : ℕ) (names text madePairs madeText : List ℕ) → List ℕ
 spellingOf attr number names text madePairs madeText = byAttr attr (partOf names text number) (partOf madePairs madeText number) []
 
--- what `part` answers of some pairs and a text
+-- what `part_in` answers of some pairs and a text
 pub record PartIn (pairs text : List ℕ) (number : ℕ) (there : Bool) (start bytes : ℕ) : Type 0 where
   pub told : there ≡ lies pairs text number
   pub starts : start ≡ startIn pairs text number
