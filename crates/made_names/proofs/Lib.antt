@@ -1,4 +1,4 @@
 pub mod Laying
 pub mod Sizing
-pub mod Telling
+pub mod Answering
 pub mod Names

@@ -1,7 +1,7 @@
 -- `made_names::make_names` meets its contract. Assumes nothing.
 use native.Mathlib.Omega.{arith}
 use mathlib.Core.Path.{sym, _∙_}
-use Rattle.made_names.proofs.Telling.{told-front, told-fault, told-rest}
+use Rattle.made_names.proofs.Answering.{told-front, told-fault, told-rest}
 use borrow.Author.Needs.{needs}
 use Rattle.made_names.proofs.make_names.Statement.{statement}
 use Rattle.made_names.proofs.make_names.Tie as tie
