@@ -11,3 +11,4 @@ pub mod Completing
 pub mod Down
 pub mod Levels
 pub mod ReadBack
+pub mod Classes

@@ -25,3 +25,4 @@ pub mod Seeks
 pub mod Told
 pub mod Fields
 pub mod Larger
+pub mod Former

@@ -22,3 +22,4 @@ pub mod Accepted
 pub mod Tables
 pub mod Plots
 pub mod Pins
+pub mod Former
