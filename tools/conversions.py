@@ -12,7 +12,8 @@ import sys
 from collections import Counter
 
 import convert_model
-from tables import KINDS, Row, lay, nested, on_one_line, runs_of, set_row, siblings, write_or_check
+from tables import (ATTR, END, FIVE, KIND, KINDS, NAME, PLACE, RETURN_FAULTS, Row, changed, lay, nested, on_one_line, runs_of,
+                    set_row, siblings, write_or_check)
 
 HEAD = """\
 # Conversions, with the answers that the request gives. Made by conversions.py.
@@ -622,7 +623,7 @@ def top():
 
 
 def refusals():
-    part("The refusals 1, 4, 2, 3, 5")
+    part("The refusals 1, 4, 21 to 25, 3, 5")
     table = one(reads_this())
     lent = (320, 60)
 
@@ -640,17 +641,48 @@ def refusals():
     bad("a name of length 0", 4, 2, switches=[OFF, ARROWS, BOTH], names=[(0, 1), (0, 0)], text=b"ab")
     bad("a name past the text", 4, 1, names=[(1, 2)], text=b"ab")
     bad("a name that is not UTF-8", 4, 3, switches=[OFF, ONLY_ASYNC], names=[(0, 1), (1, 1), (2, 1)], text=b"ab\xff")
-    bad("row 0 ends too early", 2, 0, [[0, 0, 0, 1], [4, 0, 0, 2]], [OFF, ARROWS, BOTH])
-    bad("Super as a statement's expression", 2, 2, one(sup()), [OFF, ARROWS, BOTH])
-    bad("an Ident without a name", 2, 2, one(ident(0)))
-    bad("an Arrow without a body", 2, 2, one(row(16, params())))
-    bad("depth 129", 3, 129, [[0, 0, 0, 140]] + [[5, 0, 0, 140]] * 139, [OFF, ARROWS, BOTH])
-    bad("an Ident with attr 1", 5, 2, one(ident(7, attr=1)), [OFF, ARROWS, BOTH])
+    three = [OFF, ARROWS, BOTH]
+    bad("an Arrow with the kind 7 instead", KIND, 2, changed(table, 2, kind=7), three)
+    bad("row 0 with the kind 29", KIND, 0, changed(table, 0, kind=29))
+    bad("a Function as a statement without bit 3", ATTR, 1, program(func()), three)
+    bad("an Arrow with bit 2", ATTR, 2, changed(table, 2, attr=6))
+    bad("row 0 with attr 1", ATTR, 0, changed(table, 0, attr=1))
+    bad("row 0 ends too early", END, 0, [[0, 0, 0, 1], [4, 0, 0, 2]], three)
+    bad("an Arrow that ends at its own row", END, 2, changed(table, 2, end=2))
+    bad("an Arrow that ends past the ExprStmt", END, 2, changed(table, 2, end=6))
+    bad("Super as a statement's expression", PLACE, 2, one(sup()), three)
+    bad("an Arrow without a body", PLACE, 2, one(row(16, params())))
+    bad("row 0 is a Block", PLACE, 0, changed(table, 0, kind=5))
+    bad("an Ident without a name", NAME, 2, one(ident(0)), three)
+    bad("an Arrow with a name", NAME, 2, changed(table, 2, name=1))
+    bad("row 0 with a name", NAME, 0, changed(table, 0, name=1))
+    bad("depth 129", 3, 129, [[0, 0, 0, 140]] + [[5, 0, 0, 140]] * 139, three)
+    bad("an Ident with attr 1", 5, 2, one(ident(7, attr=1)), three)
     bad("an Arguments row", 5, 2, one(row(27)), [OFF, ONLY_GENERATORS])
     bad("a Declarator with attr 1", 5, 2, program(var(decl(0, attr=1))))
     bad("a Member with attr 1", 5, 2, one(member(this(), 0, attr=1)))
     bad("the sheet's result is no input", 5, 2, [convert_model.read_rows(convert_model.SHEET_RESULT)[i:i + 4]
                                                for i in range(0, 40, 4)])
+
+    part("The order of 21 to 25")
+    bad_name = {"names": [(0, 1), (0, 0)], "text": b"a"}
+    x = {"names": [(0, 1)], "text": b"x"}
+    short, deep = program(ret()), changed(nested(140), 139, kind=4)
+    made, owned = program(expr(ident(7, attr=1)), ret()), program(expr(member(sup(), 1)), ret())
+    for number in FIVE:
+        fault = RETURN_FAULTS[number]
+        bad("before %d" % number, 1, 0, changed(short, 1, **fault), after_rows=4)
+        bad("before %d" % number, 4, 2, changed(short, 1, **fault), three, **bad_name)
+        bad("before 3, after the deep rows", number, 139, changed(deep, 139, **fault), three)
+        bad("before 5, after an Ident with attr 1", number, 3, changed(made, 3, **fault), three)
+        bad("before 6, after super.x at Program", number, 4, changed(owned, 4, **fault), **x)
+        bad("before 9, nothing lent", number, 1, changed(short, 1, **fault), room=(0, 0))
+    bad("before 7 and 8, after an arrow in a Field's value and var arguments", KIND, 9,
+        program(expr(klass(field(reads_this()))), var(decl("arguments")), row(7)), [BOTH])
+    two = [("kind and attr", KIND, {"kind": 7, "attr": 1}), ("attr and end", ATTR, {"attr": 1, "end": 1}),
+           ("end and place", END, {"end": 1, "kind": 9}), ("place and name", PLACE, {"kind": 9, "name": 1})]
+    for what, number, fields in two:
+        bad("two faults in one row, " + what, number, 1, changed(short, 1, **fields), three)
 
     part("6: Super's owner")
     on = [ARROWS, ONLY_ASYNC]
@@ -1088,7 +1120,7 @@ def callers_limits():
     both_callers("no rows", ARROWS, [], (1, 0), SAME)
     both_callers("512 rows and a word", ARROWS, siblings(512), (1, 0), SAME, after_rows=4)
     both_callers("512 rows and a byte", ARROWS, siblings(512), (1, 0), SAME, after_rows=1)
-    both_callers("sixteen zero bytes are row 513, and row 0 ends before it", ARROWS, siblings(512), (1, 0), (2, 0),
+    both_callers("sixteen zero bytes are row 513, and row 0 ends before it", ARROWS, siblings(512), (1, 0), (END, 0),
                  after_rows=16)
     most = {"names": [(0, 1)] * 4096, "text": b"a" * 65535}
     both_callers("4,096 names and 65,535 bytes of text", THREE, one(reads_this()), (0, 0), **most)
@@ -1106,12 +1138,15 @@ def callers_order():
     both_callers("1 before 4: 513 rows and a bad name", THREE, siblings(513), (1, 0), (4, 2), **bad_name)
     both_callers("4: 512 rows and a bad name", ARROWS, siblings(512), (4, 2), SAME, **bad_name)
     both_callers("4 before 3: depth 33 and a bad name", ARROWS, nested(34), (4, 2), SAME, **bad_name)
-    both_callers("1 before 2: 513 rows, and row 0 has no kind", ARROWS, set_row(siblings(513), 0, [7, 0, 0, 513]),
-                 (1, 0), (2, 0))
-    both_callers("2: the last of 512 rows is bad", ARROWS, set_row(siblings(512), 511, [4, 5, 0, 512]), (2, 511), SAME)
-    both_callers("2 before 3: a bad row before depth 33", ARROWS, set_row(nested(40), 5, [5, 0, 1, 40]), (2, 5), SAME)
-    both_callers("2 before 3: a bad row after depth 33", THREE, set_row(nested(40), 39, [5, 2, 0, 40]), (2, 39), SAME)
-    both_callers("2 before 3: the bad row has depth 33", ARROWS, set_row(nested(40), 33, [5, 0, 1, 40]), (2, 33), SAME)
+    both_callers("1 before 21: 513 rows, and row 0 has no kind", ARROWS, set_row(siblings(513), 0, [7, 0, 0, 513]),
+                 (1, 0), (KIND, 0))
+    both_callers("22: the last of 512 rows has attr 5", ARROWS, set_row(siblings(512), 511, [4, 5, 0, 512]), (ATTR, 511), SAME)
+    both_callers("25 before 3: a bad row before depth 33", ARROWS, set_row(nested(40), 5, [5, 0, 1, 40]), (NAME, 5), SAME)
+    both_callers("22 before 3: a bad row after depth 33", THREE, set_row(nested(40), 39, [5, 2, 0, 40]), (ATTR, 39), SAME)
+    both_callers("25 before 3: the bad row has depth 33", ARROWS, set_row(nested(40), 33, [5, 0, 1, 40]), (NAME, 33), SAME)
+    for number, fields in ((KIND, {"kind": 7}), (END, {"end": 39}), (PLACE, {"kind": 9}), (NAME, {"name": 1})):
+        both_callers("%d before 3: a bad row after depth 33" % number, THREE, changed(nested(40), 39, **fields), (number, 39),
+                     SAME)
     both_callers("1 before 5: 513 rows, the last a made one", ARROWS, ending(513, (1, 0, 0, 513), (27, 0, 0, 513)),
                  (1, 0), (5, 512))
     made = expr(ident(7, attr=1))

@@ -1,5 +1,6 @@
 #!/usr/bin/env python3
-"""A model of the whole conversion of the request, on trees: the refusals 1 to 9 and the modules 1 and 3 to 9.
+"""A model of the whole conversion of the request, on trees: the refusals 1, 4, 21 to 25, 3, 5 to 9, and the modules 1 and 3
+to 9.
 
   convert_model.py --self-test    the request's sheet and its ten plots, the callers and the options, and the answers of
                                   the stored tables of tables.py
@@ -70,111 +71,68 @@ def spellings(pairs, text):
     return found
 
 
-# The grammar: 2.
+# The grammar: 21 to 25, a fault of a row each.
 
+BAD_KIND = 21
+BAD_ATTR = 22
+BAD_END = 23
+BAD_PLACE = 24
+BAD_NAME = 25
+
+LISTED = set(range(PROGRAM, OTHER + 1)) | set(range(OPAQUE, TARGET + 1))
 EXPRESSIONS = {OPAQUE, THIS, IDENT, MEMBER, COMPUTED, CALL, ASSIGN, ARROW, FUNCTION, CLASS, OBJECT, SEQUENCE, ARGUMENTS}
-STATEMENTS = {EXPR_STMT, VAR, RETURN, BLOCK, OTHER}
+STATEMENTS = {EXPR_STMT, VAR, RETURN, BLOCK, OTHER, FUNCTION, CLASS}
 MEMBERS = {METHOD, FIELD, STATIC_BLOCK}
+OBJECT_OR_SUPER = EXPRESSIONS | {SUPER}
+NO_MORE = frozenset()
 
-
-def declares(row):
-    return row[0] in (FUNCTION, CLASS) and row[1] & 8 != 0
-
-
-def is_expression(row):
-    return row[0] in EXPRESSIONS and not declares(row)
-
-
-def is_statement(row):
-    return row[0] in STATEMENTS or declares(row)
-
-
-def is_kind(*kinds):
-    return lambda row: row[0] in kinds
-
-
-def is_method_function(row):
-    return row[0] == FUNCTION and not row[1] & 8
-
-
-def either(*tests):
-    return lambda row: any(test(row) for test in tests)
-
-
-OBJECT_OR_SUPER = either(is_expression, is_kind(SUPER))
-NO_MORE = None
+# Whose children are statements and nothing else.
+LISTS = {PROGRAM, BLOCK, BODY, STATIC_BLOCK}
 
 
 def children(kind, attr):
-    """What may stand below a row: the tests of its first children, and that of any further ones."""
-    key = [is_expression] if attr & 1 else []
+    """What may stand below a row: the kinds of its first children, and those of any further ones."""
+    key = [EXPRESSIONS] if attr & 1 else []
     lists = {
-        PROGRAM: is_statement, BLOCK: is_statement, BODY: is_statement, STATIC_BLOCK: is_statement,
-        VAR: is_kind(DECLARATOR), PARAMS: is_kind(DECLARATOR),
-        OTHER: either(is_statement, is_expression, is_kind(TARGET)), OPAQUE: either(is_expression, is_kind(TARGET)),
-        OBJECT: either(is_expression, is_kind(PROPERTY)),
+        VAR: {DECLARATOR}, PARAMS: {DECLARATOR}, OTHER: STATEMENTS | EXPRESSIONS | {TARGET}, OPAQUE: EXPRESSIONS | {TARGET},
+        OBJECT: EXPRESSIONS | {PROPERTY},
     }
+    if kind in LISTS:
+        return [], STATEMENTS
     if kind in lists:
         return [], lists[kind]
     if kind in (THIS, SUPER, IDENT, ARGUMENTS):
         return [], NO_MORE
     if kind in (EXPR_STMT, DECLARATOR, RETURN):
-        return [is_expression], NO_MORE
+        return [EXPRESSIONS], NO_MORE
     if kind == MEMBER:
         return [OBJECT_OR_SUPER], NO_MORE
     if kind == COMPUTED:
-        return [OBJECT_OR_SUPER, is_expression], NO_MORE
+        return [OBJECT_OR_SUPER, EXPRESSIONS], NO_MORE
     if kind == CALL:
-        return [OBJECT_OR_SUPER], is_expression
+        return [OBJECT_OR_SUPER], EXPRESSIONS
     if kind == ASSIGN:
-        return [is_kind(TARGET), is_expression], NO_MORE
+        return [{TARGET}, EXPRESSIONS], NO_MORE
     if kind == ARROW:
-        return [is_kind(PARAMS), is_expression if attr & 2 else is_kind(BODY)], NO_MORE
+        return [{PARAMS}, EXPRESSIONS if attr & 2 else {BODY}], NO_MORE
     if kind == FUNCTION:
-        return [is_kind(PARAMS), is_kind(BODY)], NO_MORE
+        return [{PARAMS}, {BODY}], NO_MORE
     if kind == CLASS:
-        return key, is_kind(*MEMBERS)
+        return key, MEMBERS
     if kind == METHOD:
-        return key + [is_method_function], NO_MORE
+        return key + [{FUNCTION}], NO_MORE
     if kind == FIELD:
-        return key + ([is_expression] if attr & 4 else []), NO_MORE
+        return key + ([EXPRESSIONS] if attr & 4 else []), NO_MORE
     if kind == PROPERTY:
-        return key + [is_method_function if attr & 2 else is_expression], NO_MORE
+        return key + [{FUNCTION} if attr & 2 else EXPRESSIONS], NO_MORE
     if kind == SEQUENCE:
-        return [is_expression, is_expression], is_expression
+        return [EXPRESSIONS, EXPRESSIONS], EXPRESSIONS
     assert kind == TARGET
-    return [is_kind(IDENT, MEMBER, COMPUTED, OPAQUE)], NO_MORE
-
-
-def attr_allowed(kind, attr):
-    if kind in (OTHER, OPAQUE):
-        return True
-    if kind == CLASS:
-        return attr in (0, 1, 8, 9)
-    if kind == FUNCTION:
-        return attr <= 15 and (not attr & 4 or attr == 4)
-    largest = {VAR: 2, DECLARATOR: 1, BLOCK: 1, IDENT: 1, MEMBER: 1, ASSIGN: 15, ARROW: 3, METHOD: 3, FIELD: 7,
-               PROPERTY: 3, ARGUMENTS: 1}
-    return attr <= largest.get(kind, 0)
-
-
-def names_made(kind, attr):
-    """A row that 5 speaks of."""
-    return kind == ARGUMENTS or (kind in (DECLARATOR, IDENT, MEMBER) and attr == 1)
-
-
-def name_allowed(kind, attr, name, names):
-    if names_made(kind, attr) or kind in (OTHER, OPAQUE):
-        return True
-    if kind in (DECLARATOR, IDENT, MEMBER):
-        return 1 <= name <= names
-    if kind in (FUNCTION, CLASS):
-        return name <= names
-    return name == 0
+    return [{IDENT, MEMBER, COMPUTED, OPAQUE}], NO_MORE
 
 
 def first_children(rows, at):
-    """The children of a row by their ends; one whose end is at fault counts as the last."""
+    """The children of a row by their ends: "A child whose `end` is at fault counts as its parent's last"."""
     end, kids, next_kid = rows[at][3], [], at + 1
     while next_kid < min(end, len(rows)):
         kids.append(next_kid)
@@ -184,36 +142,116 @@ def first_children(rows, at):
     return kids
 
 
-def constructor_stands(rows, parent, position):
+def names_made(kind, attr):
+    """A row that 5 speaks of."""
+    return kind == ARGUMENTS or (kind in (DECLARATOR, IDENT, MEMBER) and attr == 1)
+
+
+class Table:
+    """Rows, how many names they have, and for each row that was met as a child its parent's row and its position there."""
+    def __init__(self, rows, names):
+        self.rows, self.names, self.held = rows, names, {}
+
+    def above(self, at):
+        """The kind and attr of a row's parent, and the row's position there; row 0 has no parent."""
+        if at == 0:
+            return None, None, None
+        parent, position = self.held[at]
+        return (*self.rows[parent][:2], position)
+
+
+def bad_kind(table, at):
+    """21: "a kind that is not in the list"."""
+    return table.rows[at][0] not in LISTED
+
+
+def kind_allows(kind, attr):
+    """Whether a row of the kind may have the attr, as far as its place does not matter; of bit 2 of Function, see below."""
+    if kind in (OTHER, OPAQUE):
+        return True
+    if kind == CLASS:
+        return attr in (0, 1, 8, 9)
+    largest = {VAR: 2, DECLARATOR: 1, BLOCK: 1, IDENT: 1, MEMBER: 1, ASSIGN: 15, ARROW: 3, FUNCTION: 15, METHOD: 3, FIELD: 7,
+               PROPERTY: 3, ARGUMENTS: 1}
+    return attr <= largest.get(kind, 0)
+
+
+def bit_3_right(attr, parent):
+    """Of a Function or Class: "statements 1, 2, 4, 5, 6, and 17 or 20 with bit 3, which they carry only there". Under Other,
+    which holds statements and expressions, either is right."""
+    return parent == OTHER or (attr & 8 != 0) == (parent in LISTS)
+
+
+def bit_2_right(attr, parent, parent_attr, position):
     """"Bit 2 of Function stands alone, on the last child of a non-static Method"."""
-    kind, attr = rows[parent][:2]
-    return kind == METHOD and not attr & 2 and position == attr % 2
+    return not attr & 4 or (attr == 4 and parent == METHOD and not parent_attr & 2 and position == parent_attr % 2)
+
+
+def bad_attr(table, at):
+    """22: "an attr that the kind or its place doesn't allow (also a Function or Class without bit 3 in a statement's place)".
+    A misplaced Function or Class has this fault too if its bit 3 or 2 is wrong for where it stands."""
+    kind, attr = table.rows[at][:2]
+    parent, parent_attr, position = table.above(at)
+    return (not kind_allows(kind, attr)
+            or (kind in (FUNCTION, CLASS) and not bit_3_right(attr, parent))
+            or (kind == FUNCTION and not bit_2_right(attr, parent, parent_attr, position)))
+
+
+def bad_end(table, at):
+    """23: "an `end` that is not past the row, exceeds the parent's end or in row 0 is not the row count"."""
+    end = table.rows[at][3]
+    if at == 0:
+        return end != len(table.rows)
+    return not at < end <= table.rows[table.held[at][0]][3]
+
+
+def bad_place(table, at):
+    """24: "a row that its parent can't hold there, a row 0 that is no Program or a wrong number of children"."""
+    kind, attr = table.rows[at][:2]
+    if at == 0 and kind != PROGRAM:
+        return True
+    if at > 0:
+        parent, parent_attr, position = table.above(at)
+        wanted, more = children(parent, parent_attr)
+        if kind not in (wanted[position] if position < len(wanted) else more):
+            return True
+    count = len(first_children(table.rows, at))
+    wanted, more = children(kind, attr)
+    fewest = 0 if kind in (DECLARATOR, RETURN) else len(wanted)
+    return count < fewest or (not more and count > len(wanted))
+
+
+def bad_name(table, at):
+    """25: "a name outside its rule": "Ident, Member and Declarator with attr 0 name a name; Function and Class may have 0;
+    Other and Opaque hold any number; all else has 0". It "tests no name on a row that 5 names"."""
+    kind, attr, name, _ = table.rows[at]
+    if names_made(kind, attr) or kind in (OTHER, OPAQUE):
+        return False
+    if kind in (DECLARATOR, IDENT, MEMBER):
+        return not 1 <= name <= table.names
+    if kind in (FUNCTION, CLASS):
+        return name > table.names
+    return name != 0
+
+
+def faults(table, at):
+    """The numbers of a row's faults, where all rows before it are sound. A row of a kind that is not in the list has no
+    other."""
+    if bad_kind(table, at):
+        return [BAD_KIND]
+    tests = [(BAD_ATTR, bad_attr), (BAD_END, bad_end), (BAD_PLACE, bad_place), (BAD_NAME, bad_name)]
+    return [number for number, is_bad in tests if is_bad(table, at)]
 
 
 def grammar(rows, names):
-    """2: the first row that breaks the section "Rows"."""
-    where = {0: None}                 # a row's parent and its position there
-    for at, (kind, attr, name, end) in enumerate(rows):
-        bad = kind not in range(29) or kind == 7 or not attr_allowed(kind, attr)
-        if at == 0:
-            bad = bad or kind != PROGRAM or end != len(rows)
-        else:
-            parent, position = where[at]
-            wanted, more = children(*rows[parent][:2])
-            test = wanted[position] if position < len(wanted) else more
-            bad = bad or not at < end <= rows[parent][3] or not test(rows[at])
-            bad = bad or (kind == FUNCTION and attr & 4 and not constructor_stands(rows, parent, position))
-        if bad:
-            raise Refused(2, at)
-        kids = first_children(rows, at)
-        wanted, more = children(kind, attr)
-        fewest = 0 if kind in (DECLARATOR, RETURN) else len(wanted)
-        if len(kids) < fewest or (more is NO_MORE and len(kids) > len(wanted)):
-            raise Refused(2, at)
-        if not name_allowed(kind, attr, name, names):
-            raise Refused(2, at)
-        for position, kid in enumerate(kids):
-            where[kid] = (at, position)
+    """21 to 25: "The place stays the lowest bad row; where that row has several faults the lowest number is told"."""
+    table = Table(rows, names)
+    for at in range(len(rows)):
+        found = faults(table, at)
+        if found:
+            raise Refused(min(found), at)
+        for position, kid in enumerate(first_children(rows, at)):
+            table.held[kid] = (at, position)
 
 
 # Nodes.
@@ -589,7 +627,7 @@ def mode_of(arrow, asyn, asyncgen):
 
 
 def checked(rows, names, text, tablet=False):
-    """1, 4, 2, 3, 5: the nodes and the names' bytes of a table that is sound for its caller."""
+    """1, 4, 21 to 25, 3, 5: the nodes and the names' bytes of a table that is sound for its caller."""
     most_rows, most_depth = limits_of(tablet)
     sizes(rows, names, text, most_rows)
     words, pairs = words_of(rows), words_of(names)
@@ -880,7 +918,7 @@ def stored_tables():
     count = 0
     callers = {(tables.ROWS, tables.DEPTH): False, (512, 32): True}
 
-    def compare(what, rows, number, place, fault=0, names=tables.ABC, text=b"abc", limits=(tables.ROWS, tables.DEPTH),
+    def compare(what, rows, number, place, names=tables.ABC, text=b"abc", limits=(tables.ROWS, tables.DEPTH),
                 after_rows=0, after_names=0):
         nonlocal count
         if isinstance(rows, tables.Row):

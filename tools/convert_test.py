@@ -2,7 +2,8 @@
 """What ./convert writes to the standard error, its status, its options and its first build. Exit status 1 at a failure.
 
 The program of target/bin is run beside it: the standard output must be that program's, byte for byte. The sentences stand
-here by hand, one for each refusal and for each sort of faulty line; tools/sentence.awk writes them.
+here by hand, one for each refusal and for each sort of faulty line, and in tools/row_sentences for each sort of bad row;
+tools/sentence.awk writes them.
 """
 import os
 import re
@@ -43,7 +44,6 @@ ROW = "kind, attr, name and end are expected, decimal numbers up to 4294967295 w
 THREE = "three switches are expected, each 0 or 1, one space apart"
 FIRST = "`arrow async asyncgen` is expected"
 HEADER = "`kind attr name end` is expected behind the names"
-NOT_ALLOWED = "its kind, attr, name, end, place or number of children is not allowed (docs/FORMAT.md, \"Rows\")"
 MADE = "is only found in a converted table"
 NAME = "1 to 255 bytes of UTF-8 are expected"
 OUTSIDE = "`super` may not stand here: a method, a static block or a class field is expected around it, and no function but arrows in between"
@@ -61,6 +61,16 @@ def with_super_in_field(switches):
     return tree_text(in_class(field(dot("p"))), switches)
 
 
+def bad_rows():
+    """The tables of tools/row_sentences: the rows, the number of names, and the answer's number, row and words."""
+    with open(os.path.join(ROOT, "tools", "row_sentences"), encoding="ascii") as file:
+        lines = [line for line in file.read().split("\n") if line and not line.startswith("#")]
+    for table, answer in zip(lines[::2], lines[1::2]):
+        names, rows = re.fullmatch(r"names ([0-9]+) rows (.+)", table).groups()
+        number, row, words = re.fullmatch(r"(2[1-5]) row ([0-9]+): (.+)", answer).groups()
+        yield rows.split(", "), int(names), int(number), int(row), words
+
+
 SENTENCES = [
     # 1: which size.
     ("no rows", text_of([]), "1: the sheet has no rows (1 to 1024 are converted)"),
@@ -69,16 +79,6 @@ SENTENCES = [
     ("all three", text_of([], [b"a" * 20] * 4100),
      "1: the sheet has no rows (1 to 1024 are converted) and 4100 names (up to 4096 are converted)"
      " and 82000 bytes in its names (up to 65535 are converted)"),
-    # 2: what may be wrong.
-    ("no such kind", text_of([b"0 0 0 2", b"7 0 0 2"]), "2: row 1 (line 6): there is no kind 7: the kinds are 0 to 6 and 8 to 28"),
-    ("the largest kind", text_of([b"0 0 0 2", b"4294967295 0 0 2"], [b"a"]),
-     "2: row 1 (line 7): there is no kind 4294967295: the kinds are 0 to 6 and 8 to 28"),
-    ("no expression", text_of([b"0 0 0 2", b"1 0 0 2"]), "2: row 1, an ExprStmt (line 6): " + NOT_ALLOWED),
-    ("a Super in no place of its own", text_of([b"0 0 0 3", b"1 0 0 3", b"10 0 0 3"]), "2: row 2, a Super (line 7): " + NOT_ALLOWED),
-    ("an attr", text_of([b"0 0 0 2", b"4 5 0 2"], [b"a", b"b"]), "2: row 1, a Return (line 8): " + NOT_ALLOWED),
-    ("row 0 is another kind", text_of([b"4 0 0 1"]), "2: row 0, a Return (line 5): " + NOT_ALLOWED),
-    ("row 0 ends elsewhere", text_of([b"0 0 0 2"]), "2: row 0, a Program (line 5): its end is not the number of rows, 1"),
-    ("an end before its row", text_of([b"0 0 0 2", b"4 0 0 1"]), "2: row 1, a Return (line 6): its end is not past the row"),
     # 3, 4, 5.
     ("too deep", tree_text(deep(130)), "3: row 129, an Other (line 134): it is nested deeper than 128"),
     ("an empty name", text_of(SHEET, [b"a", b""]), "4: name 2 (line 5) is empty: " + NAME),
@@ -162,6 +162,9 @@ SENTENCES = [
     ("a blank line at the end", GOOD + b"\n", "12: line 10 (row 5) is blank: kind, attr, name and end are expected, or the end of the sheet"),
     ("1,025 rows", text_of(row_lines(siblings(1025)), [b"a"]), "12: line 1030 (row 1024) is one row too many: up to 1024 are converted"),
 ]
+# 21 to 25.
+SENTENCES += [(", ".join(rows), text_of([row.encode() for row in rows], [b"a"] * names), "%d: row %d (line %d): %s" % (number, at, 5 + names + at, words))
+              for rows, names, number, at, words in bad_rows()]
 
 
 def run(args, text=None, **options):
@@ -179,7 +182,7 @@ def sentences():
         wanted = run([PROGRAM], text)[1]
         check(what, run(["./convert"], text), (1, wanted, "./convert: standard input: refusal %s\n" % sentence))
         check(what + ": its number", wanted.split(b"\n")[1].split()[0].decode(), number)
-    check("the numbers that have a sentence", told, {1, 2, 3, 4, 5, 6, 7, 8, 9, 12})
+    check("the numbers that have a sentence", told, {1, 3, 4, 5, 6, 7, 8, 9, 12, 21, 22, 23, 24, 25})
 
 
 def said_of(text, number, place, cut=0):
@@ -196,6 +199,18 @@ def kinds():
     for kind, name in called.items():
         sort = ("an " if name[0] in "AEIOU" else "a ") + name
         check("kind %d" % kind, said_of(text_of([b"%d 0 0 1" % kind]), 3, 0), "refusal 3: row 0, %s (line 5): it is nested deeper than 128\n" % sort)
+    told = [(number, at, int(rows[at].split()[0])) for rows, _, number, at, _ in bad_rows()]
+    check("a bad row of each kind", {kind for number, _, kind in told if number > 21}, set(called))
+    check("a bad row 0 by each number", {number for number, at, _ in told if at == 0}, {21, 22, 23, 24, 25})
+
+
+def no_fault():
+    """What is said where the row does not show what the number says, which no answer of the program has, and of 2, which is retired."""
+    for number in [2, 21, 22, 23, 25]:
+        check("%d of a sound row" % number, said_of(GOOD, number, 2), "refusal %d: place 2\n" % number)
+    check("24 of a Program", said_of(GOOD, 24, 0), "refusal 24: place 0\n")
+    for number in range(21, 26):
+        check("%d of no row" % number, said_of(GOOD, number, 5), "refusal %d: place 5\n" % number)
 
 
 def long_sheets():
@@ -451,6 +466,7 @@ if __name__ == "__main__":
         os.mkdir(os.environ["TMPDIR"])
         sentences()
         kinds()
+        no_fault()
         long_sheets()
         other_awks()
         stored_sheets()

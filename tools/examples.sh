@@ -41,4 +41,4 @@ for sheet in examples/*/sheet; do
   fi
 done
 echo "$count examples, $differ differ"
-[[ $count -ge 6 && $differ -eq 0 ]]
+[[ $count -ge 7 && $differ -eq 0 ]]

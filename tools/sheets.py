@@ -17,7 +17,7 @@ import convert_model
 from conversions import (ASYNC, arguments, arrow, assign, call, computed, constructor, dot, expr, field, ident, in_class,
                          in_method, lam, named, one, opaque, other, program, reads_this,
                          static_block, sup, super_call, this)
-from tables import lay, siblings
+from tables import ATTR, END, KIND, NAME, PLACE, changed, lay, siblings
 
 SWITCHES, NAMES, ROWS = b"arrow async asyncgen", b"name", b"kind attr name end"
 ROOM = 131073                       # a longer text is read in pieces of so many bytes
@@ -155,8 +155,27 @@ def refused():
     store("an empty name after two", text_of(SHEET, [b"a", b"b", b""]), 4, 3)
     store("a name of 256 bytes", text_of(SHEET, [b"a" * 256]), 4, 1)
     store("a name that is not UTF-8", text_of(SHEET, [b"a", b"\xff"]), 4, 2)
-    store("a row with no kind", text_of([b"0 0 0 2", b"7 0 0 2"]), 2, 1)
-    store("the largest end", text_of([b"0 0 0 4294967295"]), 2, 0)
+    for setting in (b"0 0 0", async_on, b"1 0 0"):
+        store("a row with no kind", text_of([b"0 0 0 2", b"7 0 0 2"], switches=setting), KIND, 1)
+        store("a Function as a statement without bit 3",
+              text_of([b"0 0 0 4", b"17 0 0 4", b"18 0 0 3", b"19 0 0 4"], switches=setting), ATTR, 1)
+        store("a row that ends at itself", text_of([b"0 0 0 2", b"4 0 0 1"], switches=setting), END, 1)
+        store("an ExprStmt without an expression", text_of([b"0 0 0 2", b"1 0 0 2"], switches=setting), PLACE, 1)
+        store("an Ident with a name past the names",
+              text_of([b"0 0 0 3", b"1 0 0 3", b"11 0 2 3"], [b"a"], switches=setting), NAME, 2)
+    store("row 0 with the largest kind", text_of([b"4294967295 0 0 1"]), KIND, 0)
+    store("row 0 with the largest attr", text_of([b"0 4294967295 0 1"]), ATTR, 0)
+    store("the largest end", text_of([b"0 0 0 4294967295"]), END, 0)
+    store("row 0 is a Block", text_of([b"5 0 0 1"]), PLACE, 0)
+    store("row 0 with the largest name", text_of([b"0 0 4294967295 1"]), NAME, 0)
+    store("a row with the largest numbers", text_of([b"0 0 0 2", b" ".join([b"4294967295"] * 4)]), KIND, 1)
+    store("all but the kind of a row at fault", text_of([b"0 0 0 2", b"9 1 1 1"]), ATTR, 1)
+    store("place, end and name of a row at fault", text_of([b"0 0 0 2", b"9 0 1 1"]), END, 1)
+    store("place and name of a row at fault", text_of([b"0 0 0 2", b"9 0 1 2"]), PLACE, 1)
+    store("two bad rows", text_of([b"0 0 0 3", b"4 0 1 2", b"7 0 0 3"]), NAME, 1)
+    store("an empty name, and a row with no kind", text_of([b"0 0 0 2", b"7 0 0 2"], [b""]), 4, 1)
+    store("too deep, and a Return there with a name", text_of(row_lines(changed(deep(130), 129, kind=4, name=1))), NAME, 129)
+    store("a made binding, and behind it a row with no kind", text_of([b"0 0 0 4", b"1 0 0 3", b"11 1 1 3", b"7 0 0 4"]), KIND, 3)
     store("too deep", tree_text(deep(130)), 3, 129)
     store("a made binding", text_of([b"0 0 0 3", b"1 0 0 3", b"11 1 1 3"]), 5, 2)
     store("super outside of a method", tree_text(one(dot("p"))), 6, 3)

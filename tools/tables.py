@@ -1,17 +1,19 @@
 #!/usr/bin/env python3
-"""Stored tables for the checks 1, 4, 2, 3, 5 of the request, and the answer that the request gives for each.
+"""Stored tables for the checks 1, 4, 21 to 25, 3, 5 of the request, and the answer that the request gives for each.
 
   tables.py FILE            write the tables to FILE (crates/replay/stdin)
   tables.py --check FILE    exit status 1 if FILE is not what would be written
 
-An answer is written by hand beside its table, as number, place and class: the number of the refusal (0 for a sound
-table), its place (a row from 0, for number 4 a name from 1), and for number 2 the class of the row's lowest fault:
-1 kind, 2 attr, 3 end, 4 place or number of children, 5 name. Nothing here tests a table against the rules.
+An answer is written by hand beside its table, as number and place: the number of the refusal (0 for a sound table), and
+its place (a row from 0, for number 4 a name from 1). The numbers of a bad row are 21 kind, 22 attr, 23 end, 24 place or
+number of children, 25 name; of several the lowest is told. Nothing here tests a table against the rules. That the pairs of
+faults, the faults of row 0 and those behind another bad row are all there, `complete` sees to.
 """
 import sys
+from itertools import combinations, product
 
 HEAD = """\
-# Tables for the checks 1, 4, 2, 3, 5 of the request, with the answers that the request gives. Made by tables.py.
+# Tables for the checks 1, 4, 21 to 25, 3, 5 of the request, with the answers that the request gives. Made by tables.py.
 #
 # Numbers are decimal, apart by blanks and line ends; '#' starts a comment that ends with its line.
 # A table is, in this order:
@@ -21,10 +23,9 @@ HEAD = """\
 #   the number of runs of name pairs; for each run: start length, times, step
 #   how many zero bytes stand behind the pairs
 #   the number of runs of text bytes; for each run: byte, times, step
-#   the answer: number place class
+#   the answer: number place
 # A run has `times` items. The row's end, the pair's start or the byte grows by `step` from each item to the next.
-# An answer's class is that of the row's lowest fault, 0 where the number is not 2:
-#   1 kind, 2 attr, 3 end, 4 place or number of children, 5 name.
+# The number of a bad row is that of its lowest fault: 21 kind, 22 attr, 23 end, 24 place or number of children, 25 name.
 """
 
 KINDS = {
@@ -112,6 +113,14 @@ def set_row(rows, at, row):
     return rows
 
 
+def changed(rows, at, **fields):
+    """The rows, or those of a tree, with other fields in one row: kind=7 gives row `at` the kind 7."""
+    rows = lay(rows) if isinstance(rows, Row) else [list(row) for row in rows]
+    for field, value in fields.items():
+        rows[at][("kind", "attr", "name", "end").index(field)] = value
+    return rows
+
+
 # The list of tables.
 
 LINES = []
@@ -146,8 +155,7 @@ def on_one_line(runs):
     return "  ".join([str(len(runs))] + text)
 
 
-def table(what, rows, number, place, fault=0, names=ABC, text=b"abc", limits=(ROWS, DEPTH),
-          after_rows=0, after_names=0):
+def table(what, rows, number, place, names=ABC, text=b"abc", limits=(ROWS, DEPTH), after_rows=0, after_names=0):
     global COUNT
     COUNT += 1
     if isinstance(rows, Row):
@@ -163,20 +171,26 @@ def table(what, rows, number, place, fault=0, names=ABC, text=b"abc", limits=(RO
     LINES.append(on_one_line(runs_of(names, 0)))
     LINES.append(str(after_names))
     LINES.append(on_one_line(runs_of([(b,) for b in text], 0)))
-    LINES.append("%d %d %d" % (number, place, fault))
+    LINES.append("%d %d" % (number, place))
 
 
 def sound(what, rows, **more):
     table(what, rows, 0, 0, **more)
 
 
-def bad(what, rows, place, fault, **more):
-    """Number 2: the row and the class of its lowest fault."""
-    table(what, rows, 2, place, fault, **more)
+def bad(what, rows, place, number, **more):
+    """A bad row and the number of its lowest fault."""
+    table(what, rows, number, place, **more)
 
 
-KIND, ATTR, END, PLACE, NAME = 1, 2, 3, 4, 5
-COUNTED = PLACE                   # a wrong number of children has the class of a wrong place
+# The numbers of a bad row.
+KIND = 21
+ATTR = 22
+END = 23
+PLACE = 24
+NAME = 25
+COUNTED = PLACE                   # a wrong number of children has the number of a wrong place
+FIVE = (KIND, ATTR, END, PLACE, NAME)
 
 
 def sizes():
@@ -328,7 +342,7 @@ def names():
 
 
 def kinds():
-    part("2, class 1: kinds")
+    part("21: kinds")
     bad("row 0 of kind 7", [[7, 0, 0, 1]], 0, KIND)
     bad("row 0 of kind 29, whose end is wrong too", [[29, 0, 0, 5]], 0, KIND)
     none, after = maker(7), maker(29)
@@ -338,10 +352,9 @@ def kinds():
     bad("kind 256, whose low byte is a Program's", program(maker(256)()), 1, KIND)
     bad("kind 7 as the one expression of an ExprStmt", one(none()), 2, KIND)
     bad("kind 29 inside a Block", program(block(ret(), after(ret()))), 3, KIND)
-    bad("kind 7 with a wrong attr, name and end: the lowest class", ends(program(ret(), none(attr=9, name=9)), r2=0), 2,
+    bad("kind 7 with a wrong attr, name and end: the lowest number", ends(program(ret(), none(attr=9, name=9)), r2=0), 2,
         KIND)
     bad("kind 7 twice: the first", program(none(), none()), 1, KIND)
-    bad("the last of 16,384 rows has kind 7", set_row(siblings(16384), 16383, [7, 0, 0, 16384]), 16383, KIND)
 
 
 def well_formed():
@@ -403,7 +416,7 @@ def well_formed():
 
 
 def attrs():
-    part("2, class 2: attr, the largest allowed and one above")
+    part("22: attr, the largest allowed and one above")
     bad("Program, attr 1", program(attr=1), 0, ATTR)
     bad("ExprStmt, attr 1", program(expr(this(), attr=1)), 1, ATTR)
     sound("Var, attr 1", program(var(attr=1)))
@@ -458,7 +471,7 @@ def attrs():
 
 
 def functions():
-    part("2, class 2: the bits of Function and Class, and their places")
+    part("22: the bits of Function and Class, and their places")
     for a in (1, 2, 3):
         sound("Function as an expression, attr %d" % a, one(fn(a)))
     for a in (4, 5, 6, 7):
@@ -523,10 +536,31 @@ def functions():
     bad("a Property's value, a Function with attr 8", one(obj(prop(fn(8)))), 4, ATTR)
     bad("a Field's value, a Function with attr 4", in_class(field(fn(4), attr=4)), 4, ATTR)
     bad("a Field's value, a Class with attr 8", in_class(field(klass(attr=8), attr=4)), 4, ATTR)
+    # where neither can stand: 22 if bit 3 or bit 2 is wrong for the place, else 24
+    bad("row 0 is a Function with attr 8: bit 3 where no statement stands", fn(8), 0, ATTR)
+    bad("row 0 is a Function with attr 4: bit 2 outside a Method", fn(4), 0, ATTR)
+    bad("row 0 is a Class with attr 8: bit 3 where no statement stands", klass(attr=8), 0, ATTR)
+    bad("row 0 is a Class, whose bits would do", klass(), 0, PLACE)
+    bad("Class with a Function as a member, attr 8", in_class(fn(8)), 3, ATTR)
+    bad("Class with a Function as a member, attr 4", in_class(fn(4)), 3, ATTR)
+    bad("Class with a Function as a member, attr 3: its bits would do", in_class(fn(3)), 3, PLACE)
+    bad("Function in a Var, attr 0: its bits would do", program(var(fn())), 2, PLACE)
+    bad("Function in a Var, attr 8", program(var(fn(8))), 2, ATTR)
+    bad("Function in Params, attr 0: its bits would do", one(func(params(fn()), body())), 4, PLACE)
+    bad("Function in Params, attr 8", one(func(params(fn(8)), body())), 4, ATTR)
+    bad("Function for an Arrow's Body, attr 0: its bits would do", one(arrow(params(), fn())), 4, PLACE)
+    bad("Function for an Arrow's Body, attr 8", one(arrow(params(), fn(8))), 4, ATTR)
+    bad("Class for a Method's Function, attr 0: its bits would do", in_class(method(klass())), 4, PLACE)
+    bad("Class for a Method's Function, attr 8", in_class(method(klass(attr=8))), 4, ATTR)
+    bad("Class for a Property method's Function, attr 1: its bits would do", one(obj(prop(klass(this(), attr=1), attr=2))), 4,
+        PLACE)
+    bad("Class for a Property method's Function, attr 9", one(obj(prop(klass(this(), attr=9), attr=2))), 4, ATTR)
+    bad("Target of a Function, attr 8", one(assign(target(fn(8)), this())), 4, ATTR)
+    bad("Assign to a Class without a Target, attr 8", one(assign(klass(attr=8), this())), 3, ATTR)
 
 
 def row_names():
-    part("2, class 5: names of rows")
+    part("25: names of rows")
     for what, make in (("Ident", lambda n: one(ident(name=n))), ("Member", lambda n: one(member(this(), name=n))),
                        ("Declarator", lambda n: program(var(decl(name=n))))):
         bad("%s with name 0" % what, make(0), 2, NAME)
@@ -572,7 +606,7 @@ def row_names():
 
 
 def counts():
-    part("2, class 4: too few and too many children: the parent is told")
+    part("24: too few and too many children: the parent is told")
 
     def few(what, rows, place):
         bad("too few: " + what, rows, place, COUNTED)
@@ -628,14 +662,14 @@ def counts():
     few("Property method with bit 0 and one", one(obj(prop(fn(), attr=3))), 3)
     few("Sequence with none", one(seq()), 2)
     few("Sequence with one", one(seq(this())), 2)
-    many("Arguments with one: 2 comes before 5", one(arguments(this())), 2)
+    many("Arguments with one: 24 comes before 5", one(arguments(this())), 2)
     few("Target with none", one(assign(target(), this())), 3)
     many("Target with two", one(assign(target(ident(), ident()), this())), 3)
     many("ExprStmt with two, and the second cannot stand there: the parent is lower", program(expr(this(), ret())), 1)
 
 
 def places():
-    part("2, class 4: a row where its parent cannot hold it")
+    part("24: a row where its parent cannot hold it")
     for what, row in (("an ExprStmt", expr(this())), ("a Var", var()), ("a Return", ret()), ("a Block", block()),
                       ("an Other", other()), ("a This", this()), ("a Function", fn()), ("a Body", body())):
         bad("row 0 is %s" % what, row, 0, PLACE)
@@ -649,7 +683,7 @@ def places():
     bad("Ident in a Block", program(block(ident())), 2, PLACE)
     bad("Call in a Body", one(func(params(), body(call(this())))), 5, PLACE)
     bad("Arrow in a StaticBlock", in_class(static_block(arrow(params(), body()))), 4, PLACE)
-    bad("Arguments as a statement: 2 comes before 5", program(arguments()), 1, PLACE)
+    bad("Arguments as a statement: 24 comes before 5", program(arguments()), 1, PLACE)
     # statements where an expression stands
     bad("Return in an ExprStmt", one(ret()), 2, PLACE)
     bad("Block as an argument", one(call(this(), block())), 4, PLACE)
@@ -718,7 +752,7 @@ def places():
 
 
 def supers():
-    part("2, class 4: where Super stands")
+    part("24: where Super stands")
     sound("Super as the object of a Computed", one(computed(sup(), this())))
     sound("Super as a callee", one(call(sup())))
     sound("Super as a callee with arguments", one(call(sup(), this(), ident())))
@@ -757,13 +791,13 @@ def supers():
 
 
 def row_ends():
-    part("2, class 3: ends, and who is told")
+    part("23: ends, and who is told")
     bad("row 0 ends one before the row count", [[0, 0, 0, 2], [4, 0, 0, 2], [4, 0, 0, 3]], 0, END)
     bad("row 0 ends one past the row count", ends(program(ret(), ret()), r0=4), 0, END)
     bad("row 0 has end 0", ends(program(ret()), r0=0), 0, END)
     bad("row 0 has end 2^32 - 1", ends(program(ret()), r0=BIG), 0, END)
     bad("row 0 alone has end 2", ends(program(), r0=2), 0, END)
-    bad("row 0 is no Program and ends past the row count: the lower class", [[5, 0, 0, 2]], 0, END)
+    bad("row 0 is no Program and ends past the row count: the lower number", [[5, 0, 0, 2]], 0, END)
     wide = program(ret(), block(ret()), ret())            # rows 0, 1, 2 with 3, 4
     bad("the first statement's end is its own row", ends(wide, r1=1), 1, END)
     bad("a middle statement's end is its own row", ends(wide, r2=2), 2, END)
@@ -811,13 +845,16 @@ def row_ends():
     bad("Method whose key's end is its row: the parent", ends(in_class(method(this(), fn(), attr=1)), r4=4), 3, COUNTED)
     bad("Field whose key's end is its row: the parent", ends(in_class(field(this(), this(), attr=5)), r4=4), 3, COUNTED)
     bad("Property whose key has end 0: the parent", ends(one(obj(prop(this(), this(), attr=1))), r4=0), 3, COUNTED)
+    bad("Computed whose first child has kind 7, its end in order: the child", one(computed(maker(7)(), this())), 3, KIND)
+    bad("Computed whose first child has kind 7 and its own row as end: the parent",
+        ends(one(computed(maker(7)(), this())), r3=3), 2, COUNTED)
     # ends that are in order and move rows to another parent
     bad("ExprStmt that ends before its child has none", [[0, 0, 0, 3], [1, 0, 0, 2], [9, 0, 0, 3]], 1, COUNTED)
     bad("ExprStmt that ends past the next statement has two", ends(program(expr(this()), ret()), r1=4), 1, COUNTED)
     bad("Return that holds the next Return", ends(program(ret(), ret()), r1=3), 2, PLACE)
     bad("Computed that ends before its second child has one",
         [[0, 0, 0, 5], [1, 0, 0, 5], [13, 0, 0, 4], [9, 0, 0, 4], [9, 0, 0, 5]], 1, COUNTED)
-    # several faults in one row: the lowest class
+    # several faults in one row: the lowest number
     bad("a misplaced row whose end is at fault", ends(program(ret(), this()), r2=2), 2, END)
     bad("a misplaced row with a wrong attr and end", ends(program(ret(), this(attr=1)), r2=2), 2, ATTR)
     bad("a wrong name and end", ends(one(ident(name=0)), r2=2), 2, END)
@@ -826,10 +863,91 @@ def row_ends():
     bad("a wrong attr and name", program(ret(attr=1, name=1)), 1, ATTR)
     bad("a wrong attr and number of children", program(ret(this(), this(), attr=1)), 1, ATTR)
     bad("row 0 with a wrong attr, name and end", [[0, 1, 1, 0]], 0, ATTR)
-    # the lowest row, whatever the classes
+    # the lowest row, whatever the numbers
     bad("a wrong name before a wrong kind: the lower row", program(ret(name=1), maker(7)()), 1, NAME)
     bad("a wrong number of children before a wrong attr below it: the lower row",
         program(expr(this(attr=1), this())), 1, COUNTED)
+
+
+# Request No. 3: one row with two faults, the faults of row 0, and a bad row behind another. What of these was stored, for
+# `complete`: the lower and the higher number; the number; the number of the first bad row and that of the later one.
+PAIRS, ROW_ZERO, BEHIND = set(), set(), set()
+
+# Changes of a Return without a value, and of row 0 of a table of two rows, by the number of the fault that each is. Kind 9 is
+# a This, which is no statement, and kind 5 a Block, which is no Program. With end 3 row 0 keeps row 1 as its child.
+RETURN_FAULTS = {KIND: {"kind": 7}, ATTR: {"attr": 1}, END: {"end": 0}, PLACE: {"kind": 9}, NAME: {"name": 1}}
+ROW_ZERO_FAULTS = {KIND: {"kind": 7}, ATTR: {"attr": 2}, END: {"end": 3}, PLACE: {"kind": 5}, NAME: {"name": 1}}
+
+
+def two_faults(what, tree, at, faults):
+    """A sound table, and changes of its row `at`, each by the number of the fault that it is. Each is stored alone, and any two
+    of different fields together: then the lower number is told, and with that one mended the higher."""
+    sound(what, tree)
+    for number, change in faults.items():
+        bad("%s: %d" % (what, number), changed(tree, at, **change), at, number)
+        if at == 0:
+            ROW_ZERO.add(number)
+    for low, high in combinations(sorted(faults), 2):
+        if not faults[low].keys() & faults[high].keys():
+            bad("%s: %d and %d" % (what, low, high), changed(tree, at, **faults[low], **faults[high]), at, low)
+            PAIRS.add((low, high))
+
+
+def pairs():
+    part("21 to 25: two faults in one row, the lower number is told")
+    two_faults("a Return in the middle", program(ret(), ret(), ret()), 2, RETURN_FAULTS)
+    two_faults("a Return as the last row, deep inside", in_class(method(func(params(), body(block(ret()))))), 8,
+               {KIND: {"kind": BIG}, ATTR: {"attr": BIG}, END: {"end": 10}, PLACE: {"kind": 28}, NAME: {"name": BIG}})
+    two_faults("row 0", program(ret()), 0, ROW_ZERO_FAULTS)
+    # with end 3 the ExprStmt has no child
+    two_faults("an ExprStmt and its number of children", program(ret(), expr(this()), ret()), 2,
+               {KIND: {"kind": 29}, ATTR: {"attr": 1}, COUNTED: {"end": 3}, NAME: {"name": 1}})
+    # a Return cannot hold two, and with end 6 the row ends past the Block
+    two_faults("a statement with two children and its end", program(block(other(this(), this())), ret()), 2,
+               {KIND: {"kind": 7}, END: {"end": 6}, COUNTED: {"kind": 4}})
+    # bit 3 is missing; with end 3 the Function has Params alone
+    two_faults("a Function as a statement and its bit 3", program(fn(8), ret()), 1,
+               {KIND: {"kind": 7}, ATTR: {"attr": 0}, END: {"end": 6}, NAME: {"name": 4}})
+    two_faults("a Function as a statement, its bit 3 and its number of children", program(fn(8), ret()), 1,
+               {ATTR: {"attr": 0}, COUNTED: {"end": 3}, NAME: {"name": BIG}})
+    # an Arrow cannot stand for a Method's Function, nor a Class among the members of one, where bit 3 is wrong too
+    two_faults("a Method's Function", in_class(method(fn(1))), 4,
+               {KIND: {"kind": 7}, ATTR: {"attr": 9}, END: {"end": 4}, PLACE: {"kind": 16}, NAME: {"name": 4}})
+    two_faults("a member of a Class", in_class(static_block()), 3,
+               {KIND: {"kind": 7}, ATTR: {"attr": 8}, END: {"end": BIG}, PLACE: {"kind": 20}, NAME: {"name": 4}})
+
+
+def two_rows(what, tree, first, first_faults, later, later_faults):
+    """Two rows of a sound table, and changes of both, each by the number of the fault that it is: those of the later row alone,
+    and each of the first row with each of the later, where the first row is told."""
+    for number in FIVE:
+        bad("%s: %d at row %d alone" % (what, number, later), changed(tree, later, **later_faults[number]), later, number)
+    for number, behind in product(FIVE, FIVE):
+        rows = changed(changed(tree, first, **first_faults[number]), later, **later_faults[behind])
+        bad("%s: %d at row %d, behind it %d at row %d" % (what, number, first, behind, later), rows, first, number)
+        BEHIND.add((number, behind))
+
+
+def lowest_rows():
+    part("21 to 25: a bad row behind another, the lower row is told")
+    # The Block ends before row 3 whatever the end of row 2 is, so that row 3 stays the Program's child.
+    two_rows("in a Block and after it", program(block(ret()), ret()), 2, RETURN_FAULTS, 3, RETURN_FAULTS)
+    two_rows("row 0 and its child", program(ret()), 0, ROW_ZERO_FAULTS, 1, RETURN_FAULTS)
+    bad("too many children, and a kind below that is none: the lower row", program(expr(this(), maker(7)())), 1, COUNTED)
+
+    part("21 to 25: far from row 0")
+    for number in FIVE:
+        bad("%d: the last of 16,384 rows" % number, changed(siblings(16384), 16383, **RETURN_FAULTS[number]), 16383, number)
+    deepest = changed(nested(129), 128, kind=4)
+    for number in FIVE:
+        bad("%d: a row of depth 128" % number, changed(deepest, 128, **RETURN_FAULTS[number]), 128, number)
+
+
+def complete():
+    """That all ten pairs of faults in one row are stored, all five faults of row 0, and each of the five behind each."""
+    assert PAIRS == set(combinations(FIVE, 2)), PAIRS
+    assert ROW_ZERO == set(FIVE), ROW_ZERO
+    assert BEHIND == set(product(FIVE, FIVE)), BEHIND
 
 
 def depth():
@@ -873,10 +991,10 @@ def depth():
 def made():
     part("5: rows that only a result has")
     for n in (0, 1, 3, 4, BIG):
-        table("Ident, attr 1, name %d: 2 tests no name" % n, one(ident(attr=1, name=n)), 5, 2)
-        table("Member, attr 1, name %d: 2 tests no name" % n, one(member(this(), attr=1, name=n)), 5, 2)
-        table("Declarator, attr 1, name %d: 2 tests no name" % n, program(var(decl(attr=1, name=n))), 5, 2)
-        table("Arguments, name %d: 2 tests no name" % n, one(arguments(name=n)), 5, 2)
+        table("Ident, attr 1, name %d: 25 tests no name" % n, one(ident(attr=1, name=n)), 5, 2)
+        table("Member, attr 1, name %d: 25 tests no name" % n, one(member(this(), attr=1, name=n)), 5, 2)
+        table("Declarator, attr 1, name %d: 25 tests no name" % n, program(var(decl(attr=1, name=n))), 5, 2)
+        table("Arguments, name %d: 25 tests no name" % n, one(arguments(name=n)), 5, 2)
     table("Arguments, attr 1, name 2^32 - 1", one(arguments(attr=1, name=BIG)), 5, 2)
     table("Declarator, attr 1, with an initialiser", program(var(decl(this(), attr=1))), 5, 2)
     table("Declarator, attr 1, in Params", one(func(params(decl(attr=1)), body())), 5, 4)
@@ -899,33 +1017,41 @@ def made():
 
 
 def order():
-    part("The order 1, 4, 2, 3, 5")
+    part("The order 1, 4, 21 to 25, 3, 5")
     no_name = [(0, 1), (0, 0)]       # the second name is bad
     deep = nested(140)
     made_first = program(expr(ident(attr=1)), ret())
     table("1 before 4: a text too long, and a name of length 0", program(), 1, 0, names=no_name, text=b"a" * 65536)
     table("1 before 4: words left over, and a name out of the text", program(), 1, 0, names=[(9, 9)], after_rows=4)
-    table("1 before 2: too many rows, and row 0 has kind 7", set_row(siblings(16385), 0, [7, 0, 0, 16385]), 1, 0)
-    table("1 before 2: a name word left over, and a bad row", program(this()), 1, 0, after_names=4)
+    table("1 before 21: too many rows, and row 0 has kind 7", set_row(siblings(16385), 0, [7, 0, 0, 16385]), 1, 0)
+    table("1 before 22: a row word left over, and an attr", program(ret(attr=1)), 1, 0, after_rows=4)
+    table("1 before 23: a byte left over behind the names, and an end", ends(program(ret()), r1=1), 1, 0, after_names=1)
+    table("1 before 24: a name word left over, and a misplaced row", program(this()), 1, 0, after_names=4)
+    table("1 before 25: a text too long, and an Ident without a name", one(ident(name=0)), 1, 0, text=b"a" * 65536)
     table("1 before 3: rows over the limit, and depth too", nested(600), 1, 0, limits=(512, 32))
     table("1 before 5: a byte left over, and an Arguments row", one(arguments()), 1, 0, after_rows=1)
     table("1 before all others", set_row(nested(200), 199, [7, 0, 0, 0]), 1, 0, names=no_name, after_names=1)
-    table("4 before 2: the second name, and row 0", program(attr=1), 4, 2, names=no_name)
-    table("4 before 2: a name that no row names, and an Ident without a name", one(ident(name=0)), 4, 2, names=no_name)
+    table("4 before 21: the second name, and row 0", [[7, 0, 0, 1]], 4, 2, names=no_name)
+    table("4 before 22: the second name, and row 0", program(attr=1), 4, 2, names=no_name)
+    table("4 before 23: the second name, and row 0", ends(program(), r0=0), 4, 2, names=no_name)
+    table("4 before 24: the second name, and row 0", block(), 4, 2, names=no_name)
+    table("4 before 25: a name that no row names, and an Ident without a name", one(ident(name=0)), 4, 2, names=no_name)
     table("4 before 3", deep, 4, 2, names=no_name)
     table("4 before 5", made_first, 4, 2, names=no_name)
-    table("4 before 2, 3 and 5", set_row(nested(200), 199, [27, 9, 0, 200]), 4, 2, names=no_name)
-    table("2 before 3: the bad row is the last, after the deep ones", set_row(nested(140), 139, [5, 2, 0, 140]), 2, 139,
-          ATTR)
-    table("2 before 3: the bad row is before the deep ones", set_row(nested(140), 5, [5, 0, 1, 140]), 2, 5, NAME)
-    table("2 before 3: the deep row itself is bad", set_row(nested(140), 129, [5, 0, 1, 140]), 2, 129, NAME)
-    table("2 before 5: the made binding is the earlier row", program(expr(ident(attr=1)), ret(attr=1)), 2, 3, ATTR)
-    table("2 before 5: the made binding is the later row", program(ret(name=1), expr(ident(attr=1))), 2, 1, NAME)
-    table("2 before 5: attr 1 on an Ident where none stands", program(ident(attr=1)), 2, 1, PLACE)
-    table("2 before 5: attr 1 on a Declarator with two children", program(var(decl(this(), this(), attr=1))), 2, 2,
-          COUNTED)
-    table("2 before 5: an Ident with attr 1 whose end is at fault", ends(one(ident(attr=1)), r2=2), 2, 2, END)
-    table("2 before 3 and 5", [[0, 0, 0, 3], [1, 0, 0, 3], [27, 1, 0, 2]], 2, 2, END, limits=(ROWS, 1))
+    table("4 before 22, 3 and 5", set_row(nested(200), 199, [27, 9, 0, 200]), 4, 2, names=no_name)
+    bad("21 before 3: the bad row is the last, after the deep ones", set_row(nested(140), 139, [7, 0, 0, 140]), 139, KIND)
+    bad("22 before 3: the bad row is the last, after the deep ones", set_row(nested(140), 139, [5, 2, 0, 140]), 139, ATTR)
+    bad("23 before 3: the bad row is the last, after the deep ones", set_row(nested(140), 139, [5, 0, 0, 139]), 139, END)
+    bad("24 before 3: the bad row is the last, after the deep ones", set_row(nested(140), 139, [9, 0, 0, 140]), 139, PLACE)
+    bad("25 before 3: the bad row is before the deep ones", set_row(nested(140), 5, [5, 0, 1, 140]), 5, NAME)
+    bad("25 before 3: the deep row itself is bad", set_row(nested(140), 129, [5, 0, 1, 140]), 129, NAME)
+    bad("21 before 5: the made binding is the earlier row", program(expr(ident(attr=1)), maker(7)()), 3, KIND)
+    bad("22 before 5: the made binding is the earlier row", program(expr(ident(attr=1)), ret(attr=1)), 3, ATTR)
+    bad("25 before 5: the made binding is the later row", program(ret(name=1), expr(ident(attr=1))), 1, NAME)
+    bad("24 before 5: attr 1 on an Ident where none stands", program(ident(attr=1)), 1, PLACE)
+    bad("24 before 5: attr 1 on a Declarator with two children", program(var(decl(this(), this(), attr=1))), 2, COUNTED)
+    bad("23 before 5: an Ident with attr 1 whose end is at fault", ends(one(ident(attr=1)), r2=2), 2, END)
+    bad("23 before 3 and 5", [[0, 0, 0, 3], [1, 0, 0, 3], [27, 1, 0, 2]], 2, END, limits=(ROWS, 1))
     table("3 before 5: the made binding is the earlier row", program(expr(ident(attr=1)), block(block(ret()))), 3, 5,
           limits=(ROWS, 2))
     table("3 before 5: the deep row is the made binding", one(ident(attr=1)), 3, 2, limits=(ROWS, 1))
@@ -966,10 +1092,13 @@ def whole():
     places()
     supers()
     row_ends()
+    pairs()
+    lowest_rows()
     depth()
     made()
     order()
     sheet()
+    complete()
     return HEAD + "\n".join(LINES) + "\n"
 
 

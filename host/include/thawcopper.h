@@ -21,11 +21,14 @@
 extern "C" {
 #endif
 
-/* `refusal` and `place`. Place is the row's number from 0, the name's or the binding's from 1, or 0. */
+/* `refusal` and `place`. Place is the row's number from 0, the name's or the binding's from 1, or 0.
+ *
+ * 21 to 25 tell the first row that breaks the form; where it has several faults, the lowest of their numbers. They are
+ * tested after THAWCOPPER_BAD_NAME and before THAWCOPPER_TOO_DEEP. 2, which told all of them, is retired: it is not
+ * given any more, and no other refusal will have it. */
 enum {
     THAWCOPPER_ACCEPTED = 0,
     THAWCOPPER_SIZES = 1,           /* place 0: no rows, too many for this caller, too long, or not whole */
-    THAWCOPPER_BAD_ROW = 2,         /* the first row that breaks the form */
     THAWCOPPER_TOO_DEEP = 3,        /* the first row deeper than 128, on a tablet than 32 */
     THAWCOPPER_BAD_NAME = 4,        /* the first name outside the text, of no or over 255 bytes, or not UTF-8 */
     THAWCOPPER_MADE_ROW = 5,        /* the first row that only a result may have */
@@ -35,7 +38,12 @@ enum {
     THAWCOPPER_NO_ROOM = 9,         /* place 0: what is lent is too short for the result */
     THAWCOPPER_UNKNOWN_LETTER = 10, /* base text, names: the binding whose property has another script's first letter */
     THAWCOPPER_BAD_BINDING = 11,    /* base text, names: no such binding, or no such record */
-    THAWCOPPER_NO_SPELLING = 18     /* spelling, which has no place: attr above 1, or no pair that lies in its text */
+    THAWCOPPER_NO_SPELLING = 18,    /* spelling, which has no place: attr above 1, or no pair that lies in its text */
+    THAWCOPPER_BAD_ROW_KIND = 21,   /* a kind that is not in the list */
+    THAWCOPPER_BAD_ROW_ATTR = 22,   /* an attr that the kind or its place does not allow */
+    THAWCOPPER_BAD_ROW_END = 23,    /* an end before or at the row, or past its parent's; row 0: not the row count */
+    THAWCOPPER_BAD_ROW_PLACE = 24,  /* a wrong place or number of children; row 0: no Program */
+    THAWCOPPER_BAD_ROW_NAME = 25    /* a name outside the rule of its kind */
 };
 
 /* Bits of the options of thawcopper_convert_with. */

@@ -33,14 +33,17 @@
 //! A call takes up to 896 KiB of stack, which a thread of Rust's default size has; on a tablet 192 KiB are enough.
 //! Making names takes under 1 MiB.
 
+mod fault;
 mod names;
 mod node;
 mod origins;
 mod refusal;
+mod rules;
 mod table;
 
 pub mod raw;
 
+pub use fault::{Fault, Misfit, Parent};
 pub use names::{make_names, make_names_into, NameCounts, Names, NamesIter};
 pub use node::{Name, Node};
 pub use refusal::Refusal;
@@ -402,7 +405,7 @@ pub fn convert_into(
     out_bindings: &mut [u8],
 ) -> Result<Counts, Refusal> {
     let (rows, names, text) = (table.row_bytes(), table.name_bytes(), table.text_bytes());
-    counted(raw::convert(switches, rows, names, text, out_rows, out_bindings))
+    counted(raw::convert(switches, rows, names, text, out_rows, out_bindings), table)
 }
 
 /// Converts a table with these options into lent bytes, and allocates nothing: [`convert_into`] says what is written.
@@ -427,11 +430,11 @@ pub fn convert_into_with(
     out_bindings: &mut [u8],
 ) -> Result<Counts, Refusal> {
     let (rows, names, text) = (table.row_bytes(), table.name_bytes(), table.text_bytes());
-    counted(raw::convert_with(options.bits(), rows, names, text, out_rows, out_bindings))
+    counted(raw::convert_with(options.bits(), rows, names, text, out_rows, out_bindings), table)
 }
 
-fn counted(answer: raw::Answer) -> Result<Counts, Refusal> {
-    match Refusal::from_numbers(answer.refusal, answer.place) {
+fn counted(answer: raw::Answer, table: &Table) -> Result<Counts, Refusal> {
+    match Refusal::from_numbers(answer.refusal, answer.place, table) {
         Some(refusal) => Err(refusal),
         None => Ok(Counts { rows: answer.rows as usize, bindings: answer.bindings as usize }),
     }
@@ -454,7 +457,7 @@ pub fn base_text(bindings: &[Binding], table: &Table, number: u32) -> Result<Str
     // The longest base, and a name of 255 bytes whose first letter may grow by a byte.
     let mut out = [0; 13 + 255 + 4];
     let answer = raw::base_text(number, &bindings, table.name_bytes(), table.text_bytes(), &mut out);
-    match Refusal::from_numbers(answer.refusal, answer.place) {
+    match Refusal::from_numbers(answer.refusal, answer.place, table) {
         Some(refusal) => Err(refusal),
         None => {
             let spelled = out[..answer.bytes as usize].to_vec();

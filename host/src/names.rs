@@ -228,7 +228,7 @@ pub fn make_names_into(
     out_text: &mut [u8],
 ) -> Result<NameCounts, Refusal> {
     let answer = raw::make_names(bindings, table.name_bytes(), table.text_bytes(), out_pairs, out_text);
-    match Refusal::from_numbers(answer.refusal, answer.place) {
+    match Refusal::from_numbers(answer.refusal, answer.place, table) {
         Some(refusal) => Err(refusal),
         None => Ok(NameCounts { pairs: answer.pairs as usize, bytes: answer.bytes as usize }),
     }

@@ -76,7 +76,9 @@ fn room_grows_as_needed() {
 fn every_refusal_of_convert() {
     let refusal = |switches: &Switches, tree: Node| convert(switches, &Table::from_tree(&tree)).unwrap_err();
     assert_eq!(convert(&Switches::OFF, &Table::default()), Err(Refusal::Sizes));
-    assert_eq!(refusal(&Switches::OFF, Node::program([Node::this()])), Refusal::BadRow { row: 1 });
+    let parent = Parent { row: 0, kind: Kind::Program, attr: 0, child: 1 };
+    let fault = Fault::Place { kind: Kind::This, misfit: Misfit::Under { parent } };
+    assert_eq!(refusal(&Switches::OFF, Node::program([Node::this()])), Refusal::BadRow { row: 1, fault });
     let deep = (0..128).fold(Node::this(), |inner, _| Node::computed(inner, Node::this()));
     assert_eq!(refusal(&Switches::OFF, Node::program([Node::statement(deep)])), Refusal::TooDeep { row: 129 });
     assert_eq!(
@@ -244,6 +246,25 @@ fn the_examples_of_the_format_page() {
 }
 
 #[test]
+fn the_bad_rows_of_the_format_page() {
+    let page = include_str!("../../docs/FORMAT.md");
+    let (_, behind) = page.split_once("| rows (kind attr name end) | answer | why |\n|---|---|---|\n").unwrap();
+    let lines: Vec<Vec<&str>> = behind
+        .lines()
+        .take_while(|line| !line.is_empty())
+        .map(|line| line.split('|').map(str::trim).collect())
+        .collect();
+    assert!(lines.len() >= 10);
+    for line in lines {
+        let words = line[1].split(|c: char| !c.is_ascii_digit()).filter(|word| !word.is_empty());
+        let rows = words.flat_map(|word| word.parse::<u32>().unwrap().to_le_bytes()).collect();
+        let refusal = convert(&Switches::OFF, &Table::from_bytes(rows, Vec::new(), Vec::new())).err();
+        let (number, place) = refusal.map_or((0, 0), Refusal::numbers);
+        assert_eq!(line[2], format!("{}, place {}", number, place), "{}", line[1]);
+    }
+}
+
+#[test]
 fn the_spelling_of_a_row() {
     // class { async m(_this) { super.p(a); } }, without a name for the class or the method
     let call = Node::call(Node::member(Node::super_(), "p"), [Node::ident("a")]);
@@ -292,18 +313,113 @@ fn the_spelling_of_a_row() {
 
 #[test]
 fn refusals_have_numbers_and_words() {
-    for number in 1..13 {
-        let refusal = Refusal::from_numbers(number, 7).unwrap();
+    let table = sheet();
+    for number in 1..30 {
+        let refusal = Refusal::from_numbers(number, 7, &table).unwrap();
         let place = if number == 1 || number == 9 { 0 } else { 7 };
         assert_eq!(refusal.numbers(), (number, place));
         let words = refusal.to_string();
         assert!(place == 0 || words.contains('7'), "{}", words);
+        // 2 is retired, and the table has no row 7.
+        let known = matches!(number, 1 | 3..=11);
+        assert_eq!(refusal == Refusal::Unknown { number, place: 7 }, !known, "{}", number);
     }
-    assert_eq!(Refusal::from_numbers(0, 0), None);
+    assert_eq!(Refusal::from_numbers(0, 0, &table), None);
     // Both callers' limits, since a refusal does not know its caller.
     let sizes = Refusal::Sizes.to_string();
     assert!(sizes.contains("1 to 16384 rows, or to 512 on a tablet"), "{}", sizes);
     assert_eq!(Refusal::TooDeep { row: 33 }.to_string(), "row 33: nested deeper than 128, or than 32 on a tablet");
+}
+
+/// The tables of tools/row_sentences, with the number, the row and the sentence of each.
+fn bad_rows() -> Vec<(Table, u32, u32, &'static str)> {
+    let is_told = |line: &&str| !line.is_empty() && !line.starts_with('#');
+    let lines: Vec<&str> = include_str!("../../tools/row_sentences").lines().filter(is_told).collect();
+    let entry = |pair: &[&'static str]| {
+        let (names, rows) = pair[0].strip_prefix("names ").unwrap().split_once(" rows ").unwrap();
+        let names = (0..names.parse().unwrap()).flat_map(|start: u32| [start, 1]);
+        let words = rows.split(", ").flat_map(|row| row.split(' ')).map(|word| word.parse().unwrap());
+        let bytes = |words: Vec<u32>| words.into_iter().flat_map(u32::to_le_bytes).collect::<Vec<u8>>();
+        let table = Table::from_bytes(bytes(words.collect()), bytes(names.collect()), vec![b'a'; 4_096]);
+        let (number, sentence) = pair[1].split_once(' ').unwrap();
+        let row = sentence.strip_prefix("row ").unwrap().split_once(':').unwrap().0;
+        (table, number.parse().unwrap(), row.parse().unwrap(), sentence)
+    };
+    lines.chunks(2).map(entry).collect()
+}
+
+fn is_unknown(number: u32, place: u32, table: &Table) -> bool {
+    Refusal::from_numbers(number, place, table) == Some(Refusal::Unknown { number, place })
+}
+
+#[test]
+fn each_bad_row_has_its_sentence() {
+    let list = bad_rows();
+    assert!(list.len() >= 190);
+    for (table, number, row, sentence) in list {
+        let refusal = Refusal::from_numbers(number, row, &table).unwrap();
+        assert_eq!(refusal.to_string(), sentence);
+        assert_eq!(refusal.numbers(), (number, row), "{}", sentence);
+        assert!(matches!(refusal, Refusal::BadRow { fault, .. } if fault.number() == number), "{}", sentence);
+        assert_eq!(convert(&Switches::OFF, &table), Err(refusal), "{}", sentence);
+        // The row has no fault of a lower number, as far as it is looked for; a row without a kind has no other.
+        let others = if number == 21 { 22..26 } else { 21..number };
+        for other in others.filter(|other| number == 21 || *other != 24) {
+            assert!(is_unknown(other, row, &table), "{} of {}", other, sentence);
+        }
+    }
+}
+
+#[test]
+fn a_row_that_shows_no_fault_is_unknown() {
+    // Sound rows. Whether a parent can hold its child is not looked at again.
+    let mut table = in_async_method([reads_this(), Node::statement(Node::ident("a"))]);
+    table.add_name("b");
+    for number in 21..=25 {
+        for place in 0..table.rows().len() as u32 {
+            assert_eq!(is_unknown(number, place, &table), number != 24 || place == 0, "{} {}", number, place);
+        }
+    }
+    // No such row, and no rows.
+    for place in [13, 14, u32::MAX - 1, u32::MAX] {
+        assert!((20..30).all(|number| is_unknown(number, place, &table)));
+    }
+    assert!((20..30).all(|number| is_unknown(number, 0, &Table::default())));
+    // A parent without a kind, and none.
+    for end in [2, 1] {
+        let words: [u32; 8] = [7, 0, 0, end, 4, 1, 1, 0];
+        let table =
+            Table::from_bytes(words.iter().flat_map(|word| word.to_le_bytes()).collect(), Vec::new(), Vec::new());
+        assert!((22..=25).all(|number| is_unknown(number, 1, &table)));
+    }
+}
+
+#[test]
+fn any_bytes_have_a_refusal() {
+    // Words that are often right, from a simple generator.
+    let mut state = 1u64;
+    let mut next = move |below: u64| {
+        state = state.wrapping_mul(6_364_136_223_846_793_005).wrapping_add(1_442_695_040_888_963_407);
+        (state >> 33) % below
+    };
+    for size in 0..2_000 {
+        let mut bytes = Vec::new();
+        for _ in 0..size % 12 {
+            for below in [31, 18, 4, 14] {
+                let word = if next(20) == 0 { u32::MAX - next(3) as u32 } else { next(below) as u32 };
+                bytes.extend_from_slice(&word.to_le_bytes());
+            }
+        }
+        bytes.extend(std::iter::repeat(0).take(size % 16));
+        let table = Table::from_bytes(bytes, vec![0; size % 40], Vec::new());
+        for number in 21..=25 {
+            for place in (0..14).chain([u32::MAX]) {
+                let refusal = Refusal::from_numbers(number, place, &table).unwrap();
+                assert_eq!(refusal.numbers(), (number, place));
+                assert!(!refusal.to_string().is_empty());
+            }
+        }
+    }
 }
 
 #[test]

@@ -1,5 +1,5 @@
 /* Compiled and run by tests/header.rs: the worked example through include/thawcopper.h, by each entry, a table that
- * only the print room takes, and names of which one is taken. Prints `ok`. */
+ * only the print room takes, bad rows, and names of which one is taken. Prints `ok`. */
 #include "thawcopper.h"
 
 #include <stdio.h>
@@ -112,6 +112,28 @@ static int names(void) {
     return 1;
 }
 
+/* A Program with one row that is bad in every way, then in one way less each time. */
+static int bad_rows(void) {
+    static const struct {
+        uint32_t kind, attr, name, end, refusal;
+    } calls[] = {{7, 1, 1, 1, THAWCOPPER_BAD_ROW_KIND}, {9, 1, 1, 1, THAWCOPPER_BAD_ROW_ATTR},
+                 {9, 0, 1, 1, THAWCOPPER_BAD_ROW_END},  {9, 0, 1, 2, THAWCOPPER_BAD_ROW_PLACE},
+                 {4, 0, 1, 2, THAWCOPPER_BAD_ROW_NAME}, {4, 0, 0, 2, THAWCOPPER_ACCEPTED}};
+    uint8_t rows[32], out[32], none[1] = {0};
+    for (size_t i = 0; i < sizeof calls / sizeof *calls; i++) {
+        const uint32_t words[] = {0, 0, 0, 2, calls[i].kind, calls[i].attr, calls[i].name, calls[i].end};
+        size_t length = put(rows, words, 8);
+        thawcopper_answer answer =
+            thawcopper_convert(0, 0, 0, rows, length, none, 0, none, 0, out, sizeof out, none, 0);
+        uint32_t bad = calls[i].refusal != THAWCOPPER_ACCEPTED;
+        if (answer.refusal != calls[i].refusal || answer.place != bad || answer.rows != (bad ? 0u : 2u)) {
+            printf("a bad row: answer %u %u %u %u\n", answer.refusal, answer.place, answer.rows, answer.bindings);
+            return 0;
+        }
+    }
+    return 1;
+}
+
 int main(void) {
     /* () => this */
     static const uint32_t table[] = {0, 0, 0, 5, 1, 0, 0, 5, 16, 2, 0, 5, 18, 0, 0, 4, 9, 0, 0, 5};
@@ -160,7 +182,7 @@ int main(void) {
     }
     /* The last row of the result is an Ident with attr 1 and name 1. */
     thawcopper_part found = thawcopper_spelling(1, 1, none, 0, none, 0, pair, sizeof pair, (uint8_t *)text, 5);
-    if (!part("the spelling", found, THAWCOPPER_ACCEPTED, 0, 5) || !names()) {
+    if (!part("the spelling", found, THAWCOPPER_ACCEPTED, 0, 5) || !names() || !bad_rows()) {
         return 1;
     }
     answer = thawcopper_convert(1, 0, 0, rows, length, none, 0, none, 0, out_rows, result - 1, out_bindings, 12);

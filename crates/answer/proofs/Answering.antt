@@ -19,6 +19,7 @@ use Rattle.steps.specs.Mode.{Switches}
 use Rattle.steps.specs.Steps.{Result, steps}
 use Rattle.steps.specs.Outcome.{Outcome, Outcome.refused, namesOf, records, unlessRefused, within, outcome}
 use Rattle.steps.specs.Accepted.{Accepted}
+use Rattle.rows.proofs.Five.{fault-five}
 use Rattle.steps.proofs.Acceptance.{accepted-converts}
 use Rattle.output.specs.Output.{Done, Copied}
 use Rattle.output.proofs.Placing.{rows-bytes, records-bytes, whole, whole-copy}
@@ -34,7 +35,7 @@ pub sound-zero : (c : Checked) → checks.numberOf c ≡ 0 → c ≡ Sound
 sound-zero Sound h = refl
 sound-zero Malformed h = absurd (omega arith)
 sound-zero (BadName name) h = absurd (omega arith)
-sound-zero (BadRow class row) h = absurd (omega arith)
+sound-zero (BadRow fault row) h = let least = fault-five fault .0 in absurd (omega arith)
 sound-zero (TooDeep row) h = absurd (omega arith)
 sound-zero (MadeBinding row) h = absurd (omega arith)
 
@@ -59,12 +60,12 @@ as-refused : (o : Outcome) (outRows outBindings : List ℕ) (number place : ℕ)
 as-refused o outRows outBindings number place q =
     subst (λ (x : Outcome). Answers x number place 0 0 outRows outRows outBindings outBindings) (sym q) (refusal-answers number place outRows outBindings)
 
--- 1, 4, 2, 3 and 5
+-- 1, 4, 21 to 25, 3 and 5
 unless-sound : (c : Checked) (other : Outcome) → (checks.numberOf c ≡ 0 → ⊥) → unlessRefused c other ≡ refused (checks.numberOf c) (checks.placeFor c)
 unless-sound Sound other n = absurd (n refl)
 unless-sound Malformed other n = refl
 unless-sound (BadName name) other n = refl
-unless-sound (BadRow class row) other n = refl
+unless-sound (BadRow fault row) other n = refl
 unless-sound (TooDeep row) other n = refl
 unless-sound (MadeBinding row) other n = refl
 

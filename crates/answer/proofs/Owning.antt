@@ -24,6 +24,7 @@ use Rattle.steps.specs.Refusals.{six, seven, eight}
 use Rattle.steps.specs.Outcome.{Outcome, Outcome.refused, Outcome.converted, namesOf, records, unlessRefused, unlessAt, within, outcome}
 use Rattle.steps.specs.Accepted.{Accepted}
 use Rattle.steps.specs.Owners.{OwnersKept, arrowsOn}
+use Rattle.rows.proofs.Five.{fault-five}
 use Rattle.steps.proofs.Acceptance.{Converted, converts, owner-rule}
 use Rattle.answer.specs.Converting.{lentRoom, outcomeAs, Answers, recordsIn, resultIn, KeepsOwners, Converts}
 
@@ -42,7 +43,7 @@ checked-numbered : (c : Checked) (o : Outcome) → Numbered o → Numbered (unle
 checked-numbered Sound o h = h
 checked-numbered Malformed o h = λ q. omega arith
 checked-numbered (BadName name) o h = λ q. omega arith
-checked-numbered (BadRow class row) o h = λ q. omega arith
+checked-numbered (BadRow fault row) o h = λ q. let least = fault-five fault .0 in omega arith
 checked-numbered (TooDeep row) o h = λ q. omega arith
 checked-numbered (MadeBinding row) o h = λ q. omega arith
 

@@ -44,7 +44,7 @@ checked-place : (c : Checked) (o : Outcome) → checks.placeFor c ≤ 16384 → 
 checked-place Sound o h k = k refl
 checked-place Malformed o h k = omega arith
 checked-place (BadName name) o h k = h
-checked-place (BadRow class row) o h k = h
+checked-place (BadRow fault row) o h k = h
 checked-place (TooDeep row) o h k = h
 checked-place (MadeBinding row) o h k = h
 

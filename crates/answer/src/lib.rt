@@ -6,7 +6,7 @@ ghost use Rattle.answer.specs.Answer.{numberOf, placeOf, rowsOf, binding
 
 // What becomes of a call.
 pub enum Converted {
-    // Refusals 1, 4, 2, 3 and 5.
+    // Refusals 1, 4, 21 to 25, 3 and 5.
     Unsound { checked: Checked },
     // Refusals 6, 7 and 8.
     TurnedAway { refused: Refused },

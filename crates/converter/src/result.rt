@@ -182,8 +182,8 @@ fn over(
     up_to_16384(switches, rows, names, text, out_rows, out_bindings)
 }
 
-// The result of a table that refusals 1 to 8 leave: the rows as they are where the mode is Disabled,
-// else by the two walks.
+// The result of a table that refusals 1, 3 to 8 and 21 to 25 leave: the rows as they are where the
+// mode is Disabled, else by the two walks.
 pub fn result(
     switches: Switches,
     rows: &[u8],

@@ -1,6 +1,6 @@
-// Refusal 2: the first row that breaks the grammar. The rows are visited in order with an array of
-// marks, one a row: its place, and 16 more where its end is at fault. Each row marks its children,
-// which it finds by hopping over their ends.
+// The first row that breaks the grammar, with the class of its lowest fault, for the refusals 21 to
+// 25. The rows are visited in order with an array of marks, one a row: its place, and 16 more where
+// its end is at fault. Each row marks its children, which it finds by hopping over their ends.
 use crate::RowFault;
 use grammar::attr_ok;
 use grammar::count_ok;
@@ -147,7 +147,7 @@ fn large(s: &[u8], n: usize, names: usize) -> RowFault
     lowest_fault(s, n, names, &mut marks)
 }
 
-// Refusal 2: the first bad row, with an array that is as large as the table needs.
+// The first bad row, with an array that is as large as the table needs.
 pub fn first_fault(s: &[u8], n: usize, names: usize) -> RowFault
     requires { ⌜ (0 < n) × ((n ≤ 16384) × (16 * n ≤ length (now s))) ⌝ }
     ensures { λ r. ⌜ r ≡ firstFault (words (now (s .entry))) n names ⌝ }

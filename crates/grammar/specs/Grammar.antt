@@ -187,7 +187,7 @@ madeRow k a = (eqb a 1 && (eqb k Declarator || eqb k Ident || eqb k Member)) || 
 abbrev pub namesOne : ℕ → Bool
 namesOne k = eqb k Declarator || eqb k Ident || eqb k Member
 
--- "Ident, Member and Declarator with attr 0 name a name; Function and Class may have 0; Other and Opaque hold any number; all else has 0." "2 tests no name on a row that 5 names."
+-- "Ident, Member and Declarator with attr 0 name a name; Function and Class may have 0; Other and Opaque hold any number; all else has 0." "2 tests no name on a row that 5 names": since request No. 3 it is 25 that tests names.
 abbrev pub nameOk : ℕ → ℕ → ℕ → ℕ → Bool
 nameOk k a name names =
     madeRow k a

@@ -22,31 +22,21 @@ fn row_room() -> [u8; 262208]
     [0; 262208]
 }
 
-// An answer: the refusal's number, its place, and the fault's class where the number is 2.
+// An answer: the refusal's number and its place.
 struct Answer {
     number: u64,
     place: u64,
-    class: u64,
 }
 
 impl Answer {
     fn same(self, other: Answer) -> bool {
-        (self.number == other.number) & (self.place == other.place) & (self.class == other.class)
+        (self.number == other.number) & (self.place == other.place)
     }
 
     fn print(self) {
         io::print_decimal(1, self.number);
         io::write_all(1, b" ");
         io::print_decimal(1, self.place);
-        io::write_all(1, b" ");
-        io::print_decimal(1, self.class);
-    }
-}
-
-fn class_of(c: Checked) -> u32 {
-    match c {
-        Checked::BadRow { class, row: _ } => class,
-        _ => 0,
     }
 }
 
@@ -54,18 +44,16 @@ fn answer_of(c: Checked) -> Answer {
     Answer {
         number: c.number() as u64,
         place: c.place() as u64,
-        class: class_of(c) as u64,
     }
 }
 
-// The stored answer, three words from `at` on.
+// The stored answer, two words from `at` on.
 fn stored(words: &[u32], at: usize) -> Answer
     requires { ⌜ at < 1099511627776 ⌝ }
 {
     Answer {
         number: input::word(words, at) as u64,
         place: input::word(words, at + 1) as u64,
-        class: input::word(words, at + 2) as u64,
     }
 }
 
@@ -113,7 +101,7 @@ fn run_case(
     let b = runs::build(words, from + 3, 4, table, pairs, text);
     let at = b.at;
     let head = input::word(words, from) as usize;
-    if count < at + 3 {
+    if count < at + 2 {
         return bad_data(n, count);
     }
     if !b.good | (head != n) {
@@ -127,7 +115,7 @@ fn run_case(
     let got = run(table, pairs, text, b, limits);
     Turn {
         differ: compared(n, got, want),
-        at: at + 3,
+        at: at + 2,
     }
 }
 

@@ -2,3 +2,4 @@ pub mod Ordering
 pub mod Soundness
 pub mod Answers
 pub mod Larger
+pub mod Five

@@ -16,8 +16,9 @@ use Rattle.rows.specs.Refusals.{limited, sizesOk, firstMade, unlessNamed
 use Rattle.names.specs.declared.Found.{Found}
 use Rattle.forest.specs.declared.RowFault.{RowFault}
 use Rattle.forest.specs.declared.RowFault.the-variants.{Fine}
+use Rattle.rows.specs.declared.Fault.{Fault}
 use Rattle.rows.specs.declared.Checked.{Checked}
-use Rattle.rows.specs.declared.Checked.the-variants.{Sound, Malformed}
+use Rattle.rows.specs.declared.Checked.the-variants.{Sound, Malformed, BadRow}
 use Rattle.names.proofs.Bools.{and-left, and-right, and-both}
 use Rattle.names.proofs.GoodNames.{name-sizes}
 use Rattle.forest.proofs.Accepting.{none-faulty}
@@ -67,6 +68,10 @@ module _ (rowLimit depthLimit : ℕ) (rows names text : List ℕ) where
       and-both
       (and-both (and-both (eq-eqb (length rows % 16) 0 (omega arith)) (lt-ltb 0 (length rows) (omega arith))) (le-leb (length rows) (16 * limited rowLimit) (omega arith)))
       (and-both (and-both (eq-eqb (length names % 8) 0 (omega arith)) (le-leb (length names) 32768 (omega arith))) (le-leb (length text) 65535 (g .short)))
+
+-- a bad row, by the fault that the code has
+pub bad-by : {fault told : Fault} {row : ℕ} {c : Checked} → fault ≡ told → BadRow told row ≡ c → BadRow fault row ≡ c
+bad-by {fault} {told} {row} q h = ap (λ (x : Fault). BadRow x row) q ∙ h
 
 -- the depth's limit as the code has it
 pub deep-at : (ws : List ℕ) (limit n : ℕ) (r : Found) {most : ℕ} → most ≡ limited limit → r ≡ firstDeep ws most n → r ≡ firstDeep ws (limited limit) n

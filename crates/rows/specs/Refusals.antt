@@ -1,4 +1,4 @@
--- Refusals 1, 4, 2, 3 and 5 of section "Turned away", in the order in which they are tested. Assumes nothing.
+-- Refusals 1, 4, 21 to 25, 3 and 5 of section "Turned away", in the order in which they are tested. Assumes nothing.
 use Prim.Native.Nat.{ℕ, _+_, _*_, _/_, _%_, min}
 use mathlib.Core.Path.{_≡_}
 use mathlib.Core.Bool.{Bool, true, false, cond, _&&_}
@@ -15,14 +15,30 @@ use Rattle.names.specs.declared.Found.{Found}
 use Rattle.names.specs.declared.Found.the-variants.{At, Nothing}
 use Rattle.forest.specs.declared.RowFault.{RowFault}
 use Rattle.forest.specs.declared.RowFault.the-variants.{Fine, Bad}
+use Rattle.rows.specs.declared.Fault.{Fault}
+use Rattle.rows.specs.declared.Fault.the-variants.{Kind, Attr, End, Place, Name}
 use Rattle.rows.specs.declared.Checked.{Checked}
 use Rattle.rows.specs.declared.Checked.the-variants.{Sound, Malformed, BadName, BadRow, TooDeep, MadeBinding}
 
--- The request's number for each answer (docs/FORMAT.md, "What is turned away"). Of a bad row the class is known too; the base tells 2 for each.
+-- Change request No. 3: "21 for a kind that is not in the list, 22 for an attr that the kind or its place doesn't allow (also a Function or Class without bit 3 in a statement's place), 23 for
+-- an `end` that is not past the row, exceeds the parent's end or in row 0 is not the row count, 24 for a row that its parent can't hold there, a row 0 that is no Program or a wrong number of
+-- children, 25 for a name outside its rule"
+abbrev pub faultNumber : Fault → ℕ
+faultNumber Kind = 21
+faultNumber Attr = 22
+faultNumber End = 23
+faultNumber Place = 24
+faultNumber Name = 25
+
+-- the fault of a class, which is 1 to 5 (`class-five`)
+abbrev pub faultByClass : (class : ℕ) → Fault
+faultByClass class = cond (eqb class 1) Kind (cond (eqb class 2) Attr (cond (eqb class 3) End (cond (eqb class 4) Place Name)))
+
+-- The request's number for each answer (docs/FORMAT.md, "What is turned away"). 2 is retired.
 abbrev pub numberOf : Checked → ℕ
 numberOf Sound = 0
 numberOf Malformed = 1
-numberOf (BadRow class row) = 2
+numberOf (BadRow fault row) = faultNumber fault
 numberOf (TooDeep row) = 3
 numberOf (BadName name) = 4
 numberOf (MadeBinding row) = 5
@@ -31,7 +47,7 @@ numberOf (MadeBinding row) = 5
 abbrev pub placeFor : Checked → ℕ
 placeFor Sound = 0
 placeFor Malformed = 0
-placeFor (BadRow class row) = row
+placeFor (BadRow fault row) = row
 placeFor (TooDeep row) = row
 placeFor (BadName name) = name
 placeFor (MadeBinding row) = row
@@ -51,13 +67,13 @@ sizesOk most rows names text = eqb (rows % 16) 0 && ltb 0 rows && leb rows (16 *
 unfoldable pub firstMade : List ℕ → ℕ → Found
 firstMade ws n = first (λ i. madeRow (kindAt ws i) (attrAt ws i)) n 0
 
--- 4, 2, 3 and 5, each with what is answered where it is not given
+-- 4, 21 to 25, 3 and 5, each with what is answered where it is not given
 abbrev pub unlessNamed : Found → Checked → Checked
 unlessNamed (At name) other = BadName name
 unlessNamed Nothing other = other
 
 abbrev pub unlessFault : RowFault → Checked → Checked
-unlessFault (Bad class row) other = BadRow class row
+unlessFault (Bad class row) other = BadRow (faultByClass class) row
 unlessFault Fine other = other
 
 abbrev pub unlessDeep : Found → Checked → Checked
@@ -71,8 +87,8 @@ unlessMade Nothing other = other
 abbrev pub four : (names text : List ℕ) → Checked → Checked
 four names text = unlessNamed (firstBadName names text)
 
-abbrev pub two : (rows names : List ℕ) → Checked → Checked
-two rows names = unlessFault (firstFault (words rows) (rowsIn rows) (namesIn names))
+abbrev pub faulty : (rows names : List ℕ) → Checked → Checked
+faulty rows names = unlessFault (firstFault (words rows) (rowsIn rows) (namesIn names))
 
 abbrev pub three : (depthLimit : ℕ) (rows : List ℕ) → Checked → Checked
 three depthLimit rows = unlessDeep (firstDeep (words rows) (limited depthLimit) (rowsIn rows))
@@ -80,9 +96,9 @@ three depthLimit rows = unlessDeep (firstDeep (words rows) (limited depthLimit) 
 abbrev pub five : (rows : List ℕ) → Checked → Checked
 five rows = unlessMade (firstMade (words rows) (rowsIn rows))
 
--- "Tested in the order 1, 4, 2, 3, 5, .. each over the whole table before the next."
+-- "Tested in the order 1, 4, 2, 3, 5, .. each over the whole table before the next." "21 to 25 stand where 2 stood in the order; 2 is retired."
 unfoldable pub checked : (rowLimit depthLimit : ℕ) (rows names text : List ℕ) → Checked
 checked rowLimit depthLimit rows names text =
     cond (sizesOk (limited rowLimit) (length rows) (length names) (length text))
-    (four names text (two rows names (three depthLimit rows (five rows Sound))))
+    (four names text (faulty rows names (three depthLimit rows (five rows Sound))))
     Malformed

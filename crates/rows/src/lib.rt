@@ -1,5 +1,5 @@
-// The table of rows: the refusals 1, 4, 2, 3 and 5 in that order. Everything that decides whether bytes
-// are a table at all.
+// The table of rows: the refusals 1, 4, 21 to 25, 3 and 5 in that order. Everything that decides
+// whether bytes are a table at all.
 mod made;
 
 use forest::RowFault;
@@ -10,7 +10,7 @@ ghost use mathlib.Core.Path.{_≡_};
 ghost use mathlib.Core.Bool.{Bool};
 ghost use Prim.Native.Nat.{ℕ, _≤_};
 ghost use Rattle.rows.specs.Limits.{rowLimitOf, depthLimitOf};
-ghost use Rattle.rows.specs.Refusals.{numberOf, placeFor, limited, sizesOk, checked};
+ghost use Rattle.rows.specs.Refusals.{faultNumber, faultByClass, numberOf, placeFor, limited, sizesOk, checked};
 
 // How large a table may be. A limit over 16,384 counts as 16,384.
 pub struct Limits {
@@ -44,12 +44,51 @@ pub fn limits_for(tablet: bool) -> Limits
     }
 }
 
+// What is wrong with a bad row: a kind that is not in the list, an attr that the kind or its place
+// does not allow, an `end` at fault, a place or a number of children that is not allowed, a name
+// outside its rule.
+pub enum Fault {
+    Kind,
+    Attr,
+    End,
+    Place,
+    Name,
+}
+
+impl Fault {
+    // The request's number of it.
+    pub fn number(self) -> u32
+        ensures { λ r. ⌜ r ≡ faultNumber self ⌝ }
+    {
+        match self {
+            Fault::Kind => 21,
+            Fault::Attr => 22,
+            Fault::End => 23,
+            Fault::Place => 24,
+            Fault::Name => 25,
+        }
+    }
+}
+
+// The fault of a class, which is 1 to 5.
+fn fault_by_class(class: u32) -> Fault
+    ensures { λ r. ⌜ r ≡ faultByClass class ⌝ }
+{
+    match class {
+        1 => Fault::Kind,
+        2 => Fault::Attr,
+        3 => Fault::End,
+        4 => Fault::Place,
+        _ => Fault::Name,
+    }
+}
+
 // What the checks of this layer say of a table.
 pub enum Checked {
     Sound,
     Malformed,
     BadName { name: usize },
-    BadRow { class: u32, row: usize },
+    BadRow { fault: Fault, row: usize },
     TooDeep { row: usize },
     MadeBinding { row: usize },
 }
@@ -62,7 +101,7 @@ impl Checked {
         match self {
             Checked::Sound => 0,
             Checked::Malformed => 1,
-            Checked::BadRow { class: _, row: _ } => 2,
+            Checked::BadRow { fault, row: _ } => fault.number(),
             Checked::TooDeep { row: _ } => 3,
             Checked::BadName { name: _ } => 4,
             Checked::MadeBinding { row: _ } => 5,
@@ -76,7 +115,7 @@ impl Checked {
         match self {
             Checked::Sound => 0,
             Checked::Malformed => 0,
-            Checked::BadRow { class: _, row } => row,
+            Checked::BadRow { fault: _, row } => row,
             Checked::TooDeep { row } => row,
             Checked::BadName { name } => name,
             Checked::MadeBinding { row } => row,
@@ -102,7 +141,7 @@ fn sizes_ok(most: usize, rows: usize, names: usize, text: usize) -> bool
 }
 
 // Whether these bytes are a table: the rows, the pairs of the names and the text that they are
-// over. Refusals 1, 4, 2, 3 and 5, each over the whole table before the next.
+// over. Refusals 1, 4, 21 to 25, 3 and 5, each over the whole table before the next.
 pub fn check(rows: &[u8], names: &[u8], text: &[u8], limits: Limits) -> Checked
     ensures { λ r. ⌜ r ≡ checked (limits .rows) (limits .depth) (now (rows .entry)) (now (names .entry)) (now (text .entry)) ⌝ }
 {
@@ -118,7 +157,10 @@ pub fn check(rows: &[u8], names: &[u8], text: &[u8], limits: Limits) -> Checked
     }
     let fault = first_fault(rows, n, names.len() / 8);
     if let RowFault::Bad { class, row } = fault {
-        return Checked::BadRow { class, row };
+        return Checked::BadRow {
+            fault: fault_by_class(class),
+            row,
+        };
     }
     let deep = first_deep(rows, n, deepest as u16);
     if let Found::At(row) = deep {

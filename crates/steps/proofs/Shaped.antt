@@ -1,4 +1,4 @@
--- The rows under Program of a table that refusals 2 and 5 let through are as the steps want them. Assumes nothing.
+-- The rows under Program of a table that refusals 21 to 25 and 5 let through are as the steps want them. Assumes nothing.
 use mathlib.Core.Path.{_≡_, refl, ap, sym, subst, _∙_}
 use Prim.Native.Nat.{ℕ, zero, suc, _+_, _≤_, _<_}
 use mathlib.Core.Bool.{Bool, true, false, cond, not, _&&_, _||_, true≢false, false≢true, and-true, and-false, or-false}

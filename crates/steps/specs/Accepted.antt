@@ -1,4 +1,4 @@
--- One acceptance, for the laws of the steps and demand 3: what refusals 1 to 8 leave. Assumes nothing.
+-- One acceptance, for the laws of the steps and demand 3: what refusals 1, 3 to 8 and 21 to 25 leave. Assumes nothing.
 use mathlib.Core.Path.{_≡_}
 use mathlib.Core.List.{List}
 use Prim.Native.Nat.{ℕ}

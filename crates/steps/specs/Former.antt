@@ -1,7 +1,8 @@
--- What is answered, as document 01 has it: 2 for a bad row of any sort. Change request No. 3 is to change that alone. Assumes nothing.
+-- Change request No. 3: what was answered before it, 2 for a bad row of any sort, and what is to hold between that and what is answered now (`five-exactly`). Assumes nothing.
+use mathlib.Core.Path.{_≡_}
 use mathlib.Core.Bool.{cond}
 use mathlib.Core.List.{List}
-use Prim.Native.Nat.{ℕ}
+use Prim.Native.Nat.{ℕ, _≤_}
 use lib.ListN.{length}
 use Rattle.names.specs.Words.{words, rowsIn, namesIn}
 use Rattle.names.specs.Names.{firstBadName}
@@ -25,3 +26,16 @@ formerOutcome rowLimit depthLimit w rows names text room =
     (unlessAt 6 (six w (table rows)) (unlessAt 7 (seven w (table rows)) (unlessAt 8 (eight (namesOf names text) w (table rows))
     (within room (steps (namesOf names text) w (table rows))))))))))
     (refused 1 0)
+
+-- "turned away by one of the five", at a place
+pub record FiveAt (now : Outcome) (place : ℕ) : Type 0 where
+  pub number : ℕ
+  pub least : 21 ≤ number
+  pub most : number ≤ 25
+  pub told : now ≡ refused number place
+
+-- "a table is turned away by one of the five exactly if 2 was given before, at the same place"; every other answer is the same
+pub record FiveExactly (now before : Outcome) : Type 0 where
+  pub was-two : (place : ℕ) → FiveAt now place → before ≡ refused 2 place
+  pub is-five : (place : ℕ) → before ≡ refused 2 place → FiveAt now place
+  pub others : ((place : ℕ) → before ≡ refused 2 place → ⊥) → now ≡ before

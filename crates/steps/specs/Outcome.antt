@@ -34,12 +34,12 @@ records (bind u x f ∷ bs) = u ∷ x ∷ f ∷ records bs
 abbrev pub namesOf : (names text : List ℕ) → Names
 namesOf names text = record { pairs = names; text = text }
 
--- 1, 4, 2, 3 and 5, as the crate `rows` has them
+-- 1, 4, 21 to 25, 3 and 5, as the crate `rows` has them
 abbrev pub unlessRefused : Checked → Outcome → Outcome
 unlessRefused Sound other = other
 unlessRefused Malformed other = refused (numberOf Malformed) (placeFor Malformed)
 unlessRefused (BadName name) other = refused (numberOf (BadName name)) (placeFor (BadName name))
-unlessRefused (BadRow class row) other = refused (numberOf (BadRow class row)) (placeFor (BadRow class row))
+unlessRefused (BadRow fault row) other = refused (numberOf (BadRow fault row)) (placeFor (BadRow fault row))
 unlessRefused (TooDeep row) other = refused (numberOf (TooDeep row)) (placeFor (TooDeep row))
 unlessRefused (MadeBinding row) other = refused (numberOf (MadeBinding row)) (placeFor (MadeBinding row))
 
@@ -54,7 +54,7 @@ within room r =
     (converted (flat 0 (r .rows)) (records (r .bindings)))
     (refused 9 0)
 
--- "Tested in the order 1, 4, 2, 3, 5, 6, 7, 8, 9, each over the whole table before the next." The limits are those of rows and depth that a caller has.
+-- "Tested in the order 1, 4, 2, 3, 5, 6, 7, 8, 9, each over the whole table before the next"; "21 to 25 stand where 2 stood in the order". The limits are those of rows and depth that a caller has.
 unfoldable pub outcome : (rowLimit depthLimit : ℕ) → Switches → (rows names text : List ℕ) → Room → Outcome
 outcome rowLimit depthLimit w rows names text room =
     unlessRefused (checked rowLimit depthLimit rows names text)

@@ -30,7 +30,7 @@ becomesFunction w k a = eqb k Arrow && toFunction? w a
 abbrev pub Unchanged : Switches → (rows names text : List ℕ) → Type 0
 Unchanged w rows names text = steps (namesOf names text) w (table rows) ≡ record { rows = table rows; bindings = [] }
 
--- what the two walks are made over: a table that refusals 1 to 8 leave, in a mode that changes rows, and an empty array with room for its bindings
+-- what the two walks are made over: a table that refusals 1, 3 to 8 and 21 to 25 leave, in a mode that changes rows, and an empty array with room for its bindings
 pub record Ready (w : Switches) (rows names text made : List ℕ) (cap : ℕ) : Type 0 where
   pub accepted : Accepted 16384 128 w rows names text
   pub on : (enabled w || asyncOnly w) ≡ true

@@ -6,6 +6,7 @@ use thawcopper::{raw, Binding, Converted, Options, Row, Switches};
 use thawcopper_reference as reference;
 
 use crate::names::MadeNames;
+use crate::numbers::{Answers, BadRows};
 
 /// Bytes of a table.
 #[derive(Clone)]
@@ -145,8 +146,10 @@ impl Lent {
 pub struct Tally {
     pub tables: u64,
     pub calls: u64,
-    /// By refusal number; 0 for acceptances.
-    pub answers: [u64; 12],
+    /// Spellings that were found are not among them.
+    pub answers: Answers,
+    /// Of the tables that 21 to 25 are told of.
+    pub bad_rows: BadRows,
     /// Acceptances with bindings.
     pub with_bindings: u64,
     /// Results whose origins were compared.
@@ -158,18 +161,16 @@ pub struct Tally {
     /// Calls that make names; and the names of those that were accepted.
     pub names_calls: u64,
     pub names: u64,
-    /// Spellings that were looked up; how many there are none of.
+    /// Spellings that were looked up.
     pub spellings: u64,
-    pub no_spellings: u64,
 }
 
 impl Tally {
     pub fn add(&mut self, more: &Tally) {
         self.tables += more.tables;
         self.calls += more.calls;
-        for (sum, n) in self.answers.iter_mut().zip(more.answers) {
-            *sum += n;
-        }
+        self.answers.add(&more.answers);
+        self.bad_rows.add(&more.bad_rows);
         self.with_bindings += more.with_bindings;
         self.origins += more.origins;
         self.tablet_calls += more.tablet_calls;
@@ -178,7 +179,6 @@ impl Tally {
         self.names_calls += more.names_calls;
         self.names += more.names;
         self.spellings += more.spellings;
-        self.no_spellings += more.no_spellings;
     }
 }
 
@@ -291,10 +291,12 @@ impl Comparer {
         let caller = if entry.options().tablet { &mut self.tablet } else { &mut self.print_room };
         let answer = entry.call(input, caller.rows.lend(room.rows), caller.bindings.lend(room.bindings));
         caller.told = [answer.refusal, answer.place, answer.rows, answer.bindings];
-        self.tally.calls += 1;
-        self.tally.answers[numbers[0] as usize] += 1;
-        self.tally.with_bindings += u64::from(numbers[3] != 0);
         let told = |what: String| Err(format!("{:?} {:?}: {}", entry, room, what));
+        self.tally.calls += 1;
+        self.tally.with_bindings += u64::from(numbers[3] != 0);
+        if let Err(difference) = self.tally.answers.count(numbers[0], caller.told[0]) {
+            return told(difference);
+        }
         if caller.told != numbers {
             return told(format!("the reference answers {:?}, the library {:?}", numbers, caller.told));
         }
@@ -377,6 +379,12 @@ impl Comparer {
         for (turn, switches) in settings.iter().enumerate() {
             let too = tablet == Tablet::Each || self.tally.tables % 8 == turn as u64;
             self.setting(*switches, &input, rooms, turn, too)?;
+        }
+        // A bad row is told in each setting and room alike.
+        if let [21..=25, ..] = self.print_room.told {
+            if let Some(bad) = reference::bad_row(input.rows(), input.names().len() / 8) {
+                self.tally.bad_rows.count(&bad);
+            }
         }
         Ok(())
     }
@@ -474,9 +482,9 @@ impl BaseTexts {
             Err(r) => ([r.number, r.place, 0], Vec::new()),
         };
         let answer = raw::base_text(number, bindings, names, text, self.out.lend(room));
-        self.tally.calls += 1;
-        self.tally.answers[numbers[0] as usize] += 1;
         let got = [answer.refusal, answer.place, answer.bytes];
+        self.tally.calls += 1;
+        self.tally.answers.count(numbers[0], got[0]).map_err(|difference| format!("base text: {}", difference))?;
         if got != numbers {
             return Err(format!("base text: the reference answers {:?}, the library {:?}", numbers, got));
         }

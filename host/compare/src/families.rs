@@ -2,8 +2,8 @@
 
 use crate::all::All;
 use crate::call::{BaseTexts, Comparer, Difference, Input, Rooms, Table, Tablet, Tally, EIGHT};
-use crate::grammar::{laid, Head, Place, Tree};
-use crate::random::{names, table, Random, Style};
+use crate::grammar::{children, laid, Head, Place, Tree};
+use crate::random::{names, table, Random, Style, SPELLINGS};
 use thawcopper::Switches;
 use thawcopper_reference::{Limits, MOST_NAMES, MOST_RECORDS, MOST_TEXT};
 
@@ -442,6 +442,102 @@ fn placed(kind: u32, attr: u32, row: Tree) -> Tree {
     }
 }
 
+/// Places for a row in a whole table, each with the number that the row has there. Behind the statement that it is in
+/// stands a Return.
+fn places() -> Vec<(usize, fn(Tree) -> Tree)> {
+    fn program(inside: Tree) -> Tree {
+        tree(PROGRAM, &[inside, leaf(RETURN)])
+    }
+    fn expression(inside: Tree) -> Tree {
+        program(statement(inside))
+    }
+    fn class(member: Tree) -> Tree {
+        program(tree(CLASS, &[member]))
+    }
+    fn object(part: Tree) -> Tree {
+        expression(tree(OBJECT, &[part]))
+    }
+    vec![
+        (0, |row| row),
+        (1, program),
+        (2, |row| program(tree(BLOCK, &[row]))),
+        (3, |row| class(tree(STATIC_BLOCK, &[row]))),
+        (2, |row| program(tree(OTHER, &[row]))),
+        (2, expression),
+        (3, |row| expression(tree(OPAQUE, &[row]))),
+        (3, |row| expression(tree(COMPUTED, &[row, leaf(THIS)]))),
+        (4, |row| expression(tree(CALL, &[leaf(THIS), row]))),
+        (4, |row| expression(arrow_of(ARROW, row))),
+        (2, |row| program(tree([20, 9, 0], &[row]))),
+        (2, |row| program(tree(VAR, &[row]))),
+        (2, |row| program(tree(function(8), &[row, leaf(BODY)]))),
+        (3, |row| program(tree(function(8), &[leaf(PARAMS), row]))),
+        (2, class),
+        (3, |row| class(tree(METHOD, &[row]))),
+        (3, |row| class(tree(STATIC_METHOD, &[row]))),
+        (3, |row| class(tree(KEYED, &[row, function_of(0, &[], &[])]))),
+        (4, |row| class(tree(KEYED, &[leaf(THIS), row]))),
+        (3, object),
+        (4, |row| object(tree(PROPERTY, &[row]))),
+        (4, |row| object(tree(PROPERTY_METHOD, &[row]))),
+        (3, |row| expression(tree(ASSIGN, &[row, leaf(THIS)]))),
+        (3, |row| program(tree(OTHER, &[tree(TARGET, &[row])]))),
+    ]
+}
+
+/// The smallest tree for a place.
+fn smallest_at(place: Place) -> Tree {
+    use Place::*;
+    match place {
+        Program => leaf(PROGRAM),
+        Statement | AnyPart => leaf(RETURN),
+        Expression | Object | ObjectPart | ExpressionPart => leaf(THIS),
+        Declarator => leaf(DECLARATOR),
+        Params => leaf(PARAMS),
+        Body => leaf(BODY),
+        ClassMember => leaf(STATIC_BLOCK),
+        MethodFunction(_) | PropertyFunction => function_of(0, &[], &[]),
+        Target => tree(TARGET, &[leaf(ARGUMENTS)]),
+        TargetChild => leaf(ARGUMENTS),
+    }
+}
+
+/// Every kind, attr, name and end of one row, at each place, with the children that it wants, one fewer and one more:
+/// most of them break the form, many in more than one way. In one of five the last row is of no kind.
+pub fn all_words(more: usize) -> Result<Tally, Found> {
+    let mut run = Run::new();
+    let places = places();
+    for (at, around) in &places {
+        for kind in 0..31 {
+            let attrs = if more > 0 || matches!(kind, 15 | 17) { 17 } else { 10 };
+            for attr in 0..attrs {
+                let (first, _) = children([kind, attr, 0]);
+                let right: Vec<Tree> = first.into_iter().map(smallest_at).collect();
+                let fewer = right.split_last().map(|(_, fewer)| fewer.to_vec());
+                let further = [&right[..], &[leaf(THIS)]].concat();
+                for list in [Some(right), fewer, Some(further)].into_iter().flatten() {
+                    let mut table = of_tree(&around(tree([kind, attr, 0], &list)));
+                    let [.., end] = table.rows[*at];
+                    for name in [0, 1, SPELLINGS.len() as u32 + 1] {
+                        for end in [end, *at as u32, end + 1, u32::MAX] {
+                            table.rows[*at] = [kind, attr, name, end];
+                            let last = table.rows.len() - 1;
+                            let kept = table.rows[last];
+                            if last > *at && run.comparer.tally.tables % 5 == 0 {
+                                table.rows[last][0] = 29;
+                            }
+                            run.two(&table)?;
+                            table.rows[last] = kept;
+                        }
+                    }
+                }
+            }
+        }
+    }
+    println!("    each kind and attr, 3 names and 4 ends of a row, at {} places", places.len());
+    Ok(run.tally())
+}
+
 /// Every end: all tables of 3 rows over all kinds, and all of 4 and 5 rows over a few, well-formed or not.
 pub fn all_ends(more: usize) -> Result<Tally, Found> {
     let mut run = Run::new();
@@ -518,8 +614,38 @@ pub fn damaged_tables(seed: u64, tables: u64, rows: usize) -> Result<Tally, Foun
             }
             run.eight(&copy, Rooms::Some, Tablet::Each)?;
         }
+        for _ in 0..4 {
+            let mut copy = whole.clone();
+            damage_a_row(&mut random, &mut copy);
+            run.eight(&copy, Rooms::Some, Tablet::Each)?;
+        }
     }
     Ok(run.tally())
+}
+
+/// Damages up to three words of one row, in one of four of row 0.
+fn damage_a_row(random: &mut Random, table: &mut Table) {
+    let row = if random.one_in(4) { 0 } else { random.below(table.rows.len()) };
+    for _ in 0..1 + random.below(3) {
+        damage_word(random, table, row);
+    }
+}
+
+fn damage_word(random: &mut Random, table: &mut Table, row: usize) {
+    let count = table.rows.len() as u32;
+    let words = &mut table.rows[row];
+    match random.below(9) {
+        0 | 1 => words[0] = random.below(31) as u32,
+        2 | 3 => words[1] ^= 1 << random.below(6),
+        4 => words[2] = random.of(&[0, 1, 3, 12, 13, 14, u32::MAX]),
+        5 => words[3] = words[3].wrapping_add(1),
+        6 => words[3] = words[3].wrapping_sub(1),
+        7 => words[3] = random.of(&[0, row as u32, row as u32 + 1, count, count + 1, u32::MAX]),
+        _ => {
+            let word = random.below(4);
+            words[word] ^= 1 << random.below(32);
+        }
+    }
 }
 
 fn damage(random: &mut Random, table: &mut Table) {
@@ -529,18 +655,8 @@ fn damage(random: &mut Random, table: &mut Table) {
     let row = random.below(table.rows.len());
     let name = random.below(table.names.len());
     let byte = random.below(table.text.len());
-    let count = table.rows.len() as u32;
     match random.below(16) {
-        0 | 1 => table.rows[row][0] = random.below(31) as u32,
-        2 | 3 => table.rows[row][1] ^= 1 << random.below(6),
-        4 => table.rows[row][2] = random.of(&[0, 1, 3, 12, 13, 14, u32::MAX]),
-        5 => table.rows[row][3] = table.rows[row][3].wrapping_add(1),
-        6 => table.rows[row][3] = table.rows[row][3].wrapping_sub(1),
-        7 => table.rows[row][3] = random.of(&[0, row as u32, row as u32 + 1, count, count + 1, u32::MAX]),
-        8 => {
-            let word = random.below(4);
-            table.rows[row][word] ^= 1 << random.below(32);
-        }
+        0..=8 => damage_word(random, table, row),
         9 => {
             table.rows.remove(row);
         }
@@ -852,11 +968,51 @@ pub fn base_texts(seed: u64, calls: u64) -> Result<Tally, Found> {
     Ok(base.tally)
 }
 
-/// A damaged copy of a table.
+/// A damaged copy of a table; in one of two the damage is to one row.
 pub fn damaged_copy(random: &mut Random, whole: &Table) -> Table {
     let mut copy = whole.clone();
-    damage(random, &mut copy);
+    if random.one_in(2) {
+        damage(random, &mut copy);
+    } else {
+        damage_a_row(random, &mut copy);
+    }
     copy
+}
+
+/// Row `at`, a Program if that is 0 and else a Return, with the faults of those of 21 to 25 whose bits are set: bit 0 is
+/// 21.
+fn with_faults(at: u32, faults: u32) -> [u32; 4] {
+    let has = |number: u32| faults >> (number - 21) & 1;
+    let (good, misplaced) = if at == 0 { (PROGRAM, RETURN) } else { (RETURN, THIS) };
+    let kind = match (has(21), has(24)) {
+        (1, _) => 29,
+        (_, 1) => misplaced[0],
+        _ => good[0],
+    };
+    [kind, has(22), has(25), at + 1 - has(23)]
+}
+
+/// Small tables for 21 to 25: each choice of faults on row 0 and on another row, each fault on a row behind each other one,
+/// and a Function and a Class with and without bits 2 and 3 at each place.
+pub fn bad_rows() -> Vec<Table> {
+    let mut tables = Vec::new();
+    for faults in 1..32 {
+        tables.push(vec![with_faults(0, faults)]);
+        tables.push(vec![[0, 0, 0, 3], with_faults(1, faults), [4, 0, 0, 3]]);
+    }
+    for first in 0..5 {
+        for second in 0..5 {
+            tables.push(vec![[0, 0, 0, 3], with_faults(1, 1 << first), with_faults(2, 1 << second)]);
+        }
+    }
+    for (_, around) in places() {
+        for attr in [0, 4, 8] {
+            tables.push(laid(&around(function_of(attr, &[], &[]))));
+            tables.push(laid(&around(leaf([20, attr, 0]))));
+        }
+    }
+    let one_name = |rows| Table { names: vec![[0, 1]], text: b"a".to_vec(), ..of_rows(rows) };
+    tables.into_iter().map(one_name).collect()
 }
 
 /// A small table for each context, with what the rules are about in it.

@@ -49,9 +49,11 @@ impl MadeNames {
         let got = [answer.refusal, answer.place, answer.pairs, answer.bytes];
         tally.calls += 1;
         tally.names_calls += 1;
-        tally.answers[numbers[0] as usize] += 1;
         tally.names += u64::from(numbers[2]);
         let told = |what: String| Err(format!("made names, {:?}: {}", room, what));
+        if let Err(difference) = tally.answers.count(numbers[0], got[0]) {
+            return told(difference);
+        }
         if got != numbers {
             return told(format!("the reference answers {:?}, the library {:?}", numbers, got));
         }
@@ -192,12 +194,14 @@ impl<'a> Lookup<'a> {
         let part = raw::spelling(attr, number, names, text, made_pairs, made_text);
         let got = [part.refusal, part.start, part.bytes];
         tally.spellings += 1;
-        tally.no_spellings += u64::from(found.is_none());
+        let told = |what: String| Err(format!("spelling of {} with attr {}: {}", number, attr, what));
+        if found.is_none() {
+            if let Err(difference) = tally.answers.count(wanted[0], got[0]) {
+                return told(difference);
+            }
+        }
         if got != wanted {
-            return Err(format!(
-                "spelling of {} with attr {}: the reference answers {:?}, the library {:?}",
-                number, attr, wanted, got
-            ));
+            return told(format!("the reference answers {:?}, the library {:?}", wanted, got));
         }
         let of = if attr == 0 { text } else { made_text };
         Ok(found.map(|(start, length)| &of[start as usize..start as usize + length as usize]))

@@ -1,6 +1,6 @@
 //! Stored conversions: the form that the repository's replay programs read. The head of a file says what it is.
 
-use std::collections::HashSet;
+use std::collections::{BTreeSet, HashSet};
 use std::fmt::Write as _;
 use std::fs;
 use std::process::exit;
@@ -9,7 +9,8 @@ use thawcopper::{Options, Switches};
 use thawcopper_reference as reference;
 
 use crate::call::{Comparer, Entry, Input, Room, Table, EIGHT};
-use crate::families::{around_the_tablets_limits, constructors, damaged_copy, worked};
+use crate::families::{around_the_tablets_limits, bad_rows, constructors, damaged_copy, worked};
+use crate::numbers::OF_A_CONVERSION;
 use crate::random::{table, Random, Style};
 
 /// What a conversion answers, in numbers and words.
@@ -133,11 +134,11 @@ pub fn check(file: &str) {
 
 const HEAD: &str = "\
 # Conversions, with the answers of host/reference, an implementation on boxed trees that shares nothing with the code
-# that reads this. Made by `compare sample` (host/compare/src/stored.rs): the worked tables, then random tables, damaged
-# ones among them, from a fixed seed, in settings and with room by turns; one is taken where its answer has something
-# that no earlier one of its mode has: a row under a parent, a refusal of a row, a use of a binding. Behind them stand
-# tables around a tablet's limits, by both callers; and as a tablet the worked tables, and random ones that are too deep
-# for it.
+# that reads this. Made by `compare sample` (host/compare/src/stored.rs): the worked tables; small tables for the faults
+# of a row, by both callers; then random tables, damaged ones among them, from a fixed seed, in settings and with room by
+# turns; one is taken where its answer has something that no earlier one of its mode has: a row under a parent, a refusal
+# of a row, a use of a binding; a bad row is one for all modes. Behind them stand tables around a tablet's limits, by both
+# callers; and as a tablet the worked tables, and random ones that are too deep for it.
 #
 # Numbers are decimal, apart by blanks and line ends; '#' starts a comment that ends with its line.
 # A conversion is, in this order:
@@ -192,15 +193,17 @@ fn shows(word: u32, table: &Table, answer: &Answer, seen: &mut HashSet<[u32; 7]>
         reference::Mode::Enabled => 1,
         reference::Mode::AsyncOnly => 2,
     };
+    let [number, place, ..] = answer.numbers;
+    // A bad row is told alike in each mode and to both callers.
+    let by = if matches!(number, 21..=25) { 6 } else { mode + 3 * u32::from(options.tablet) };
     let mut new = 0;
     let mut see = |what: [u32; 6]| {
         let [a, b, c, d, e, f] = what;
-        new += usize::from(seen.insert([mode + 3 * u32::from(options.tablet), a, b, c, d, e, f]));
+        new += usize::from(seen.insert([by, a, b, c, d, e, f]));
     };
-    let [number, place, ..] = answer.numbers;
     if number != 0 {
         let row = table.rows.get(place as usize).copied().unwrap_or([0; 4]);
-        let row = if matches!(number, 2 | 3 | 5..=8) { row } else { [0; 4] };
+        let row = if matches!(number, 21..=25 | 3 | 5..=8) { row } else { [0; 4] };
         see([1, number, row[0].min(30), row[1].min(16), 0, 0]);
         // One is enough.
         return 2 * new;
@@ -238,6 +241,7 @@ pub fn write(file: &str) {
     let mut out = HEAD.to_string();
     let mut random = Random::new(1);
     let mut seen = HashSet::new();
+    let mut met = BTreeSet::new();
     let mut count = 0;
     let mut take = |out: &mut String, word: u32, table: &Table, turn: usize, least: usize| {
         let input = Input::of(table);
@@ -257,6 +261,7 @@ pub fn write(file: &str) {
             _ => exact,
         };
         let answer = answer(word, &input, room);
+        met.insert(answer.numbers[0]);
         count += 1;
         let _ = writeln!(out, "\n{} {}\n{} {}", count, word, room.rows, room.bindings);
         write_runs(out, &table.rows, 3);
@@ -270,8 +275,12 @@ pub fn write(file: &str) {
         write_runs(out, &answer.rows, 3);
         write_runs(out, &answer.bindings, 2);
     };
-    let print_room = |switches: Switches| Options::new(switches).bits();
-    let tablet = |switches: Switches| Options::new(switches).tablet(true).bits();
+    fn print_room(switches: Switches) -> u32 {
+        Options::new(switches).bits()
+    }
+    fn tablet(switches: Switches) -> u32 {
+        Options::new(switches).tablet(true).bits()
+    }
     // These in exact room; the constructors whether or not they show something new.
     for table in constructors() {
         for switches in EIGHT {
@@ -282,6 +291,10 @@ pub fn write(file: &str) {
         for switches in EIGHT {
             take(&mut out, print_room(switches), &table, 5, 1);
         }
+    }
+    for (turn, table) in bad_rows().iter().enumerate() {
+        let caller = if turn / 8 % 2 == 0 { print_room } else { tablet };
+        take(&mut out, caller(EIGHT[turn % 8]), table, 5, 0);
     }
     for turn in 1..=30_000 {
         let style = Style {
@@ -319,6 +332,10 @@ pub fn write(file: &str) {
         if number == 3 && kinds.insert(made.rows[place as usize][0]) {
             take(&mut out, word, &made, 5, 0);
         }
+    }
+    let every = BTreeSet::from_iter([0].into_iter().chain(OF_A_CONVERSION));
+    if met != every {
+        stop(&format!("the numbers {:?} are met, but the numbers are {:?}", met, every));
     }
     let numbers = Numbers::of(&out).list.len();
     if out.len() > MOST_BYTES || numbers > MOST_NUMBERS {

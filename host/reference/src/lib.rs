@@ -1,13 +1,13 @@
 //! A second reading of the request in plain Rust on boxed trees, for comparison only.
 //!
 //! It was written from the request and from oxc_transformer's `arrow_function_converter.rs`, and shares no code and no
-//! tables with the Rattle side. `table` reads rows and has the refusals 1, 4, 2, 3 and 5, with the limits of the caller
-//! (change request No. 1: `Limits`), `owners` has 6, 7 and 8, both from the request. `converter` follows the Rust: one
-//! traversal with enter and exit, and the Rust's stacks. So where the request says "from a This outward" in one
-//! sentence, this has what the Rust does, and the two readings check each other. `tree` is the tree between, `build`
-//! makes it from rows and `lay` lays it out again. Each node of the tree keeps the row that it was read from, so that
-//! `lay` can tell where each row of a result comes from. `base_text` is module 2, and `made_names` the names of bindings
-//! and the spelling of an Ident (change request No. 2).
+//! tables with the Rattle side. `table` reads rows and has the refusals 1, 4, 21 to 25, 3 and 5, with the limits of the
+//! caller (change request No. 1: `Limits`) and a number for each sort of fault that a row may have (No. 3), `owners` has
+//! 6, 7 and 8, both from the request. `converter` follows the Rust: one traversal with enter and exit, and the Rust's
+//! stacks. So where the request says "from a This outward" in one sentence, this has what the Rust does, and the two
+//! readings check each other. `tree` is the tree between, `build` makes it from rows and `lay` lays it out again. Each
+//! node of the tree keeps the row that it was read from, so that `lay` can tell where each row of a result comes from.
+//! `base_text` is module 2, and `made_names` the names of bindings and the spelling of an Ident (change request No. 2).
 //!
 //! ```text
 //! rows, names, text -> table::read -> owners::check -> build -> converter -> lay -> rows
@@ -26,6 +26,7 @@ mod tree;
 pub use base_text::base_text;
 pub use converter::Mode;
 pub use made_names::{made, make_names, spelling, Made};
+pub use table::{bad_row, BadRow};
 
 /// The three switches.
 #[derive(Clone, Copy, Debug, PartialEq, Eq)]
@@ -362,12 +363,17 @@ mod tests {
         assert_eq!(bad_name(tablet(OFF), &wide(513)), refused(1, 0));
         assert_eq!(bad_name(print_room(OFF), &wide(513)), refused(4, 1));
         assert_eq!(bad_name(tablet(OFF), &deep(33)), refused(4, 1));
-        // 2 before 3, though the row that is too deep comes first.
-        let mut rows = deep(33);
-        rows.push([29, 0, 0, 36]);
-        rows[0][3] = 36;
-        assert_eq!(told(tablet(OFF), &rows), refused(2, 35));
-        assert_eq!(told(print_room(OFF), &rows), refused(2, 35));
+        // 21 to 25 before 3, though the row that is too deep comes first.
+        let bad = [[29, 0, 0, 36], [4, 1, 0, 36], [4, 0, 0, 35], [9, 0, 0, 36], [4, 0, 1, 36]];
+        for (number, row) in (21..).zip(bad) {
+            let mut rows = deep(33);
+            rows.push(row);
+            rows[0][3] = 36;
+            assert_eq!(told(tablet(OFF), &rows), refused(number, 35));
+            assert_eq!(told(print_room(OFF), &rows), refused(number, 35));
+            // 4 before them.
+            assert_eq!(bad_name(tablet(OFF), &rows), refused(4, 1));
+        }
         // 3 before 5, though the row that only a result has, a Member with attr 1, comes first.
         let mut rows = deep(33);
         rows[3] = [12, 1, 0, 35];

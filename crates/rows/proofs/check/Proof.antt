@@ -6,7 +6,7 @@ use borrow.Author.Tests.{not-true, not-false}
 use lib.ListN.{length}
 use Rattle.rows.specs.Sound.{GoodSizes}
 use Rattle.rows.specs.Refusals.{sizesOk}
-use Rattle.rows.proofs.Ordering.{SizesOk, is-checked, is-malformed, good-sizes, deep-at, ends-within}
+use Rattle.rows.proofs.Ordering.{SizesOk, is-checked, is-malformed, good-sizes, bad-by, deep-at, ends-within}
 use native.Mathlib.Omega.{arith}
 use borrow.Author.Needs.{needs}
 use Rattle.rows.proofs.check.Statement.{statement}
@@ -53,8 +53,17 @@ first-fault-requires c κs = let g = sizes (c .before .before .before) in omega 
 enum-known-fault : tie.Need-enum-known-fault
 enum-known-fault c = search needs
 
+fault-by-class-requires : tie.Need-fault-by-class-requires
+fault-by-class-requires c κs = search needs
+
 returns-3 : tie.Need-returns-3
-returns-3 c = is-checked _ _ _ _ _ _ _ _ _ (sized (c .before .before .before .before .before .before .before)) (sym (c .before .before .before .before .before .before .first-bad-name .ensures) ∙ c .before .before .before .before .enum-told .given .1) (sym (c .before .before .before .first-fault .ensures) ∙ c .before .fault .given .1) refl refl
+returns-3 c =
+    let found = c .before .before .before .before in
+    let named = found .before in
+    let searched = named .before .before in
+    bad-by (c .fault-by-class .ensures)
+    (is-checked _ _ _ _ _ _ _ _ _ (sized (searched .before)) (sym (searched .first-bad-name .ensures) ∙ named .enum-told .given .1)
+    (sym (found .first-fault .ensures) ∙ c .before .before .fault .given .1) refl refl)
 
 enum-told-2 : tie.Need-enum-told-2
 enum-told-2 c = search needs
@@ -105,6 +114,7 @@ check-spec =
     enum-told
     first-fault-requires
     enum-known-fault
+    fault-by-class-requires
     returns-3
     enum-told-2
     cast-first-deep
