@@ -1,18 +1,15 @@
 -- Demand 3 of the bytes that are written: whatever answers as it should keeps the owners, whatever the limits. Assumes nothing.
 use mathlib.Core.Path.{_≡_, refl, sym, ap, ap₂, subst, _∙_}
-use mathlib.Core.Bool.{Bool, true, false, cond, _&&_}
+use mathlib.Core.Bool.{Bool}
 use mathlib.Core.List.{List, [], _∷_}
-use Prim.Native.Nat.{ℕ, _*_, _/_}
+use Prim.Native.Nat.{ℕ, _*_}
 use native.Mathlib.Omega.{arith}
-use lib.Dec.{leb}
 use lib.ListN.{length, take}
 use Rattle.names.specs.Words.{words}
 use Rattle.names.proofs.Storing.{front-words}
 use Rattle.forest.specs.Forest.{Rows, size, flat, rowsAt, table}
 use Rattle.rows.specs.Limits.{rowLimitOf, depthLimitOf}
 use Rattle.rows.specs.Refusals.{checked}
-use Rattle.names.specs.declared.Found.{Found}
-use Rattle.names.specs.declared.Found.the-variants.{At, Nothing}
 use Rattle.rows.specs.declared.Checked.{Checked}
 use Rattle.rows.specs.declared.Checked.the-variants.{Sound, Malformed, BadName, BadRow, TooDeep, MadeBinding}
 use Rattle.forest.proofs.Accepting.{length-flat}
@@ -20,12 +17,12 @@ use Rattle.forest.proofs.ReadBack.{read-back}
 use Rattle.steps.specs.Mode.{Switches}
 use Rattle.steps.specs.Bindings.{Binding, Binding.bind}
 use Rattle.steps.specs.Steps.{Result, steps}
-use Rattle.steps.specs.Refusals.{six, seven, eight}
-use Rattle.steps.specs.Outcome.{Outcome, Outcome.refused, Outcome.converted, namesOf, records, unlessRefused, unlessAt, within, outcome}
+use Rattle.steps.specs.Outcome.{Outcome, Outcome.refused, Outcome.converted, namesOf, records, unlessRefused, outcome}
 use Rattle.steps.specs.Accepted.{Accepted}
 use Rattle.steps.specs.Owners.{OwnersKept, arrowsOn}
 use Rattle.rows.proofs.Five.{fault-five}
 use Rattle.steps.proofs.Acceptance.{Converted, converts, owner-rule}
+use Rattle.steps.proofs.Refusing.{RefusedBy, later-by}
 use Rattle.answer.specs.Converting.{lentRoom, outcomeAs, Answers, recordsIn, resultIn, KeepsOwners, Converts}
 
 -- the records of bindings read back as those bindings
@@ -36,8 +33,7 @@ records-back (bind u x f ∷ bs) = rw (records-back bs)
 
 -- no refusal has number 0
 abbrev Numbered : Outcome → Type 0
-Numbered (refused number place) = number ≡ 0 → ⊥
-Numbered (converted rows bindings) = Unit {0}
+Numbered = RefusedBy (λ number. number ≡ 0 → ⊥)
 
 checked-numbered : (c : Checked) (o : Outcome) → Numbered o → Numbered (unlessRefused c o)
 checked-numbered Sound o h = h
@@ -47,29 +43,15 @@ checked-numbered (BadRow fault row) o h = λ q. let least = fault-five fault .0 
 checked-numbered (TooDeep row) o h = λ q. omega arith
 checked-numbered (MadeBinding row) o h = λ q. omega arith
 
-found-numbered : (number : ℕ) (f : Found) (o : Outcome) → (number ≡ 0 → ⊥) → Numbered o → Numbered (unlessAt number f o)
-found-numbered number (At row) o n h = n
-found-numbered number Nothing o n h = h
-
-room-numbered : (b : Bool) (ws vs : List ℕ) → Numbered (cond b (converted ws vs) (refused 9 0))
-room-numbered true ws vs = tt
-room-numbered false ws vs = λ q. omega arith
-
 module _ (rowLimit depthLimit : ℕ) (w : Switches) (rows names text outRows outBindings : List ℕ) where
   abbrev O : Outcome
   O = outcome rowLimit depthLimit w rows names text (lentRoom outRows outBindings)
 
   outcome-numbered : Numbered O
-  unfolding outcome within
+  unfolding outcome
   outcome-numbered =
       checked-numbered (checked rowLimit depthLimit rows names text) _
-      (found-numbered 6 (six w (table rows)) _ (λ q. omega arith)
-      (found-numbered 7 (seven w (table rows)) _ (λ q. omega arith)
-      (found-numbered 8 (eight (namesOf names text) w (table rows)) _ (λ q. omega arith)
-      (room-numbered (leb (size (R .rows)) (length outRows / 16) && leb (length (R .bindings)) (length outBindings / 12)) (flat 0 (R .rows)) (records (R .bindings))))))
-    where
-      R : Result
-      R = steps (namesOf names text) w (table rows)
+      (later-by (λ number. number ≡ 0 → ⊥) (λ q. omega arith) (λ q. omega arith) (λ q. omega arith) (λ q. omega arith) w rows names text (lentRoom outRows outBindings))
 
   module _ (number place n m : ℕ) (outRows′ outBindings′ : List ℕ) where
     -- what stands at the front reads back as the result

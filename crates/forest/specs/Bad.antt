@@ -1,7 +1,7 @@
 -- The rule of a bad row as it stood before change request No. 3, without classes: "first bad row: breaks the section above", over any words. `first-bad` of the crate's proofs says that
 -- `firstFault` tells the same row. Assumes nothing.
 use Prim.Native.Nat.{ℕ, zero, suc, _+_}
-use mathlib.Core.Bool.{Bool, true, false, cond, not, _&&_}
+use mathlib.Core.Bool.{Bool, cond, not, _&&_}
 use mathlib.Core.List.{List}
 use lib.ListN.{length}
 use lib.Dec.{eqb, ltb}

@@ -1,15 +1,13 @@
 -- Change request No. 3: one of 21 to 25 is answered exactly where 2 was, at the same place, and every other answer is the same (`five-exactly`); so 2 is never answered (`two-retired`).
 -- Assumes nothing.
 use mathlib.Core.Path.{_≡_, refl, ap, sym, subst, _∙_}
-use mathlib.Core.Bool.{Bool, true, false, cond, _&&_}
+use mathlib.Core.Bool.{Bool, true, false, cond}
 use mathlib.Core.List.{List}
 use Prim.Native.Nat.{ℕ, _<_, _≤_}
 use native.Mathlib.Omega.{arith}
-use lib.Dec.{leb}
 use lib.ListN.{length}
 use Rattle.names.specs.Words.{words, rowsIn, namesIn}
 use Rattle.names.specs.Names.{firstBadName}
-use Rattle.forest.specs.Forest.{size, table}
 use Rattle.forest.specs.Faults.{firstFault}
 use Rattle.forest.specs.Bad.{rowOf}
 use Rattle.forest.specs.Told.{firstDeep}
@@ -22,23 +20,13 @@ use Rattle.rows.specs.declared.Checked.the-variants.{Sound, Malformed}
 use Rattle.forest.proofs.Classes.{first-bad}
 use Rattle.rows.proofs.Five.{fault-five}
 use Rattle.steps.specs.Mode.{Switches}
-use Rattle.steps.specs.Steps.{steps}
-use Rattle.steps.specs.Refusals.{six, seven, eight}
-use Rattle.steps.specs.Outcome.{Outcome, Outcome.refused, Outcome.converted, Room, namesOf, unlessRefused, unlessAt, within, outcome}
+use Rattle.steps.specs.Outcome.{Outcome, Outcome.refused, Outcome.converted, Room, unlessRefused, unlessAt, outcome}
 use Rattle.steps.specs.Former.{formerOutcome, FiveExactly}
+use Rattle.steps.proofs.Refusing.{RefusedBy, later, later-by}
 
 -- neither 2 nor one of the five
-abbrev Other : Outcome → Type 0
-Other (refused number place) = (number < 21) × (number ≡ 2 → ⊥)
-Other (converted rows bindings) = Unit {0}
-
-other-at : (number : ℕ) (f : Found) (o : Outcome) → number < 21 → (number ≡ 2 → ⊥) → Other o → Other (unlessAt number f o)
-other-at number (At row) o l n h = (l, n)
-other-at number Nothing o l n h = h
-
-other-room : (b : Bool) (rows bindings : List ℕ) → Other (cond b (converted rows bindings) (refused 9 0))
-other-room true rows bindings = tt
-other-room false rows bindings = (omega arith, λ q. omega arith)
+abbrev Other : ℕ → Type 0
+Other number = (number < 21) × (number ≡ 2 → ⊥)
 
 number-same : {n m p q : ℕ} → refused n p ≡ refused m q → n ≡ m
 number-same h = cc
@@ -50,7 +38,7 @@ not-converted : {rows bindings : List ℕ} {n p : ℕ} → converted rows bindin
 not-converted h = let z : _≡_ {A = ℕ} 0 1 = cc in omega arith
 
 -- an answer that is the same, and one of the five
-same : (o : Outcome) → Other o → FiveExactly o o
+same : (o : Outcome) → RefusedBy Other o → FiveExactly o o
 same (refused number place) h = record {
   was-two = λ p five. let small = h .0 in let least = five .least in let z : number ≡ five .number = number-same (five .told) in absurd (omega arith);
   is-five = λ p q. absurd (h .1 (number-same q));
@@ -69,7 +57,7 @@ one-of-five number row least most = record {
   others = λ n. absurd (n row refl);
 }
 
-by-tests : (sized : Bool) (named : Found) (fault : RowFault) (deep made : Found) (rest : Outcome) → Other rest
+by-tests : (sized : Bool) (named : Found) (fault : RowFault) (deep made : Found) (rest : Outcome) → RefusedBy Other rest
     → FiveExactly (unlessRefused (cond sized (unlessNamed named (unlessFault fault (unlessDeep deep (unlessMade made Sound)))) Malformed) rest)
     (cond sized (unlessAt 4 named (unlessAt 2 (rowOf fault) (unlessAt 3 deep (unlessAt 5 made rest)))) (refused 1 0))
 by-tests false named fault deep made rest h = same (refused 1 0) (omega arith, λ q. omega arith)
@@ -87,21 +75,6 @@ never-two now before place five h = never place (sym (five .others never) ∙ h)
     never p q = let f = five .is-five p q in let least = f .least in let z : 2 ≡ f .number = number-same (sym h ∙ f .told) in omega arith
 
 module _ (rowLimit depthLimit : ℕ) (w : Switches) (rows names text : List ℕ) (room : Room) where
-  -- 6, 7, 8 and 9, and the result
-  abbrev later : Outcome
-  later =
-      unlessAt 6 (six w (table rows)) (unlessAt 7 (seven w (table rows)) (unlessAt 8 (eight (namesOf names text) w (table rows))
-      (within room (steps (namesOf names text) w (table rows)))))
-
-  other-later : Other later
-  unfolding within
-  other-later =
-      let R = steps (namesOf names text) w (table rows) in
-      other-at 6 (six w (table rows)) _ (omega arith) (λ q. omega arith)
-      (other-at 7 (seven w (table rows)) _ (omega arith) (λ q. omega arith)
-      (other-at 8 (eight (namesOf names text) w (table rows)) _ (omega arith) (λ q. omega arith)
-      (other-room (leb (size (R .rows)) (room .rows) && leb (length (R .bindings)) (room .bindings)) _ _)))
-
   pub five-exactly : FiveExactly (outcome rowLimit depthLimit w rows names text room) (formerOutcome rowLimit depthLimit w rows names text room)
   unfolding outcome formerOutcome checked
   five-exactly =
@@ -109,10 +82,12 @@ module _ (rowLimit depthLimit : ℕ) (w : Switches) (rows names text : List ℕ)
       let fault = firstFault (words rows) (rowsIn rows) (namesIn names) in
       let deep = firstDeep (words rows) (limited depthLimit) (rowsIn rows) in
       let made = firstMade (words rows) (rowsIn rows) in
+      let rest = later w rows names text room in
       subst
-      (λ (bad : Found). FiveExactly (outcome rowLimit depthLimit w rows names text room) (cond sized (unlessAt 4 (firstBadName names text) (unlessAt 2 bad (unlessAt 3 deep (unlessAt 5 made later)))) (refused 1 0)))
+      (λ (bad : Found). FiveExactly (outcome rowLimit depthLimit w rows names text room) (cond sized (unlessAt 4 (firstBadName names text) (unlessAt 2 bad (unlessAt 3 deep (unlessAt 5 made rest)))) (refused 1 0)))
       (first-bad (words rows) (namesIn names) (rowsIn rows))
-      (by-tests sized (firstBadName names text) fault deep made later other-later)
+      (by-tests sized (firstBadName names text) fault deep made rest
+      (later-by Other (omega arith, λ q. omega arith) (omega arith, λ q. omega arith) (omega arith, λ q. omega arith) (omega arith, λ q. omega arith) w rows names text room))
 
   -- 2 is never given again
   pub two-retired : (place : ℕ) → outcome rowLimit depthLimit w rows names text room ≡ refused 2 place → ⊥

@@ -25,4 +25,5 @@ pub mod Seeks
 pub mod Told
 pub mod Fields
 pub mod Larger
+pub mod Refusing
 pub mod Former
