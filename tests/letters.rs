@@ -4,15 +4,16 @@
 //!
 //! Prints the library's Unicode version; a difference ends it with a panic.
 
-/// The lines `up 0x00DF (0x0053 ∷ 0x0053 ∷ []) ∷` of the definition.
+/// The lines `up 0x00DF (0x0053 ∷ 0x0053 ∷ []) ∷` of the definition `uppers`, which has no others.
 fn mappings(text: &str) -> Vec<(u32, String)> {
-    let number = |word: &str| u32::from_str_radix(word.trim_start_matches("0x"), 16).unwrap();
-    let line = |line: &str| {
-        let (code, capitals) = line.trim().strip_prefix("up 0x")?.split_once(" (")?;
-        let capitals = capitals.split(" ∷ ").filter(|word| word.starts_with("0x")).map(number);
-        Some((number(code), capitals.map(|c| char::from_u32(c).unwrap()).collect()))
+    let list = text.split_once("\nuppers =\n").and_then(|(_, rest)| rest.split_once("\n    []\n")).unwrap().0;
+    let number = |word: &str| u32::from_str_radix(word.strip_prefix("0x")?, 16).ok();
+    let entry = |line: &str| {
+        let (code, capitals) = line.strip_prefix("    up ")?.strip_suffix(" ∷ []) ∷")?.split_once(" (")?;
+        let capitals = capitals.split(" ∷ ").map(|word| char::from_u32(number(word)?)).collect::<Option<_>>()?;
+        Some((number(code)?, capitals))
     };
-    text.lines().filter_map(line).collect()
+    list.lines().map(|line| entry(line).unwrap_or_else(|| panic!("an entry of another form: {line}"))).collect()
 }
 
 fn upper(c: char) -> String {

@@ -1,6 +1,6 @@
 -- The capitals of a first character, by the range in which it lies. Assumes nothing.
-use Prim.Native.Nat.{ℕ, _+_, _-_, _<_, _≤_}
-use mathlib.Core.Path.{_≡_, refl, _∙_}
+use Prim.Native.Nat.{ℕ, _+_, _-_, _/_, _%_, _<_, _≤_}
+use mathlib.Core.Path.{_≡_, refl, ap, sym, _∙_}
 use mathlib.Core.Bool.{Bool, true, false, cond, _&&_}
 use mathlib.Core.List.{List, [], _∷_}
 use lib.Dec.{T, leb, ltb, eqb}
@@ -9,31 +9,43 @@ use native.Mathlib.Omega.{arith}
 use borrow.Author.Tests.{lt-ltb, le-ltb, le-leb, lt-leb, leb-true}
 use Rattle.names.proofs.Bools.{and-left, and-right}
 use Rattle.letters.specs.Characters.{encodeAll}
-use Rattle.letters.specs.Letters.{entryBytes, entryFor, capitalsIn, uppers, Upper, inTable, capital, flipped, Capitals}
-use Rattle.letters.proofs.Table.{every, at, same, same-eq}
+use Rattle.letters.specs.Letters.{entryBytes, entryFor, capitalsIn, uppers, Upper, inTable, capital, flipped, cyrillicCapital, Capitals}
+use Rattle.letters.proofs.Range.{every, at, same, same-eq}
 
--- The code's table against Unicode's: the test at one entry, and the law that turns it, passed over the whole table, into the rule at each entry.
-unfoldable pub right : ℕ → ℕ → Bool
-right k x = same (entryBytes x) (entryFor k)
+-- The code's table against Unicode's list: the test at one place, and the law that turns it, passed over the first n places, into the rule at each of them.
+unfoldable pub right : List ℕ → ℕ → Bool
+right table k = same (entryBytes (getD table k 0)) (entryFor k)
 
-pub entry-law : (table : List ℕ) → T (every right 0 table) → (k : ℕ) → k < length table → entryBytes (getD table k 0) ≡ entryFor k
+pub entry-law : (table : List ℕ) (n : ℕ) → T (every (right table) 0 n) → (k : ℕ) → k < n → entryBytes (getD table k 0) ≡ entryFor k
 unfolding right
-entry-law table t k h = same-eq (entryBytes (getD table k 0)) (entryFor k) (at right table t k h)
+entry-law table n t k h = same-eq (entryBytes (getD table k 0)) (entryFor k) (at (right table) 0 n t k (omega arith) (omega arith))
 
--- the table's place of each character that it has
-low : (c : ℕ) → 0x80 ≤ c → c ≤ 0xFF → entryFor (c - 0x80) ≡ encodeAll (capitalsIn uppers c)
+-- the entry of a character, at its place in the code's table
+entry-of : (c : ℕ) → 0x80 ≤ c → entryFor (c - 0x80) ≡ encodeAll (capitalsIn uppers c)
 unfolding entryFor
-low c a b =
-    let h : c - 0x80 < 128 = omega arith in
+entry-of c a =
     let e : 0x80 + (c - 0x80) ≡ c = omega arith in
-    rw (lt-ltb (c - 0x80) 128 h, e)
+    rw e
 
-high : (c : ℕ) → 0x400 ≤ c → c ≤ 0x45F → entryFor (c - 0x380) ≡ encodeAll (capitalsIn uppers c)
-unfolding entryFor
-high c a b =
-    let h : 128 ≤ c - 0x380 = omega arith in
-    let e : 0x380 + (c - 0x380) ≡ c = omega arith in
-    rw (le-ltb (c - 0x380) 128 h, e)
+-- Change request No. 4, "Prove it equal to the 96 entries it replaces": those of Unicode's list, by one test over all of them.
+unfoldable follows : ℕ → Bool
+follows c = same (capitalsIn uppers c) (cyrillicCapital c ∷ [])
+
+all-follow : T (every follows 0x400 96)
+unfolding follows capitalsIn uppers cyrillicCapital
+all-follow = tt
+
+pub cyrillic-entries : (c : ℕ) → 0x400 ≤ c → c ≤ 0x45F → capitalsIn uppers c ≡ cyrillicCapital c ∷ []
+unfolding follows
+cyrillic-entries c a b = same-eq (capitalsIn uppers c) (cyrillicCapital c ∷ []) (at follows 0x400 96 all-follow c a (omega arith))
+
+-- the UTF-8 of a Cyrillic capital
+two-bytes : (z : ℕ) → 0x400 ≤ z → z ≤ 0x42F → encodeAll (z ∷ []) ≡ (0xC0 + z / 64) ∷ (0x80 + z % 64) ∷ []
+unfolding encodeAll
+two-bytes z a b =
+    let l : 0x80 ≤ z = omega arith in
+    let k : z < 0x800 = omega arith in
+    rw (le-ltb z 0x80 l, lt-ltb z 0x800 k)
 
 pub ascii : (c x : ℕ) → c < 0x80 → x ≡ flipped c → Capitals c 1 x 0
 unfolding capital
@@ -42,14 +54,19 @@ ascii c x h e = record { bytes = rw (lt-ltb c 0x80 h, ← e); most = omega arith
 pub latin : (c x y : ℕ) → 0x80 ≤ c → c ≤ 0xFF → _≡_ {A = List ℕ} (x ∷ y ∷ []) (entryFor (c - 0x80)) → Capitals c 2 x y
 unfolding capital
 latin c x y h k e =
-    record { bytes = e ∙ low c h k ∙ rw (le-ltb c 0x80 h, le-leb 0x80 c h, le-leb c 0xFF k); most = omega arith; heard = rw (le-ltb c 0x80 h, le-leb 0x80 c h, le-leb c 0xFF k) }
+    record { bytes = e ∙ entry-of c h ∙ rw (le-ltb c 0x80 h, le-leb 0x80 c h, le-leb c 0xFF k); most = omega arith; heard = rw (le-ltb c 0x80 h, le-leb 0x80 c h, le-leb c 0xFF k) }
 
-pub cyrillic : (c x y : ℕ) → 0x400 ≤ c → c ≤ 0x45F → _≡_ {A = List ℕ} (x ∷ y ∷ []) (entryFor (c - 0x380)) → Capitals c 2 x y
+pub cyrillic : (c z x y : ℕ) → 0x400 ≤ c → c ≤ 0x45F → z ≡ cyrillicCapital c → 0x400 ≤ z → z ≤ 0x42F → x ≡ 0xC0 + z / 64 → y ≡ 0x80 + z % 64 → Capitals c 2 x y
 unfolding capital
-cyrillic c x y h k e =
+cyrillic c z x y h k q lo hi p r =
     let a : 0x80 ≤ c = omega arith in
     let b : 0xFF < c = omega arith in
-    record { bytes = e ∙ high c h k ∙ rw (le-ltb c 0x80 a, le-leb 0x80 c a, lt-leb c 0xFF b, le-leb 0x400 c h, le-leb c 0x45F k); most = omega arith; heard = rw (le-ltb c 0x80 a, le-leb 0x80 c a, lt-leb c 0xFF b, le-leb 0x400 c h, le-leb c 0x45F k) }
+    let e : encodeAll (capitalsIn uppers c) ≡ (0xC0 + z / 64) ∷ (0x80 + z % 64) ∷ [] = ap encodeAll (cyrillic-entries c h k ∙ ap (λ (m : ℕ). m ∷ []) (sym q)) ∙ two-bytes z lo hi in
+    record {
+      bytes = rw (le-ltb c 0x80 a, le-leb 0x80 c a, lt-leb c 0xFF b, le-leb 0x400 c h, le-leb c 0x45F k, e, p, r);
+      most = omega arith;
+      heard = rw (le-ltb c 0x80 a, le-leb 0x80 c a, lt-leb c 0xFF b, le-leb 0x400 c h, le-leb c 0x45F k);
+    }
 
 pub between : (c : ℕ) → 0xFF < c → c < 0x400 → Capitals c 0 0 0
 unfolding capital

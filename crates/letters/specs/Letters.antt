@@ -1,7 +1,7 @@
 -- Letter case, of a first character. "ASCII: a first byte at or above `a` has 0x20 flipped. U+0080 to U+00FF and U+0400 to U+045F: Unicode's full uppercase, by a 224-entry table (U+00DF gives `SS`)." Assumes nothing.
-use Prim.Native.Nat.{ℕ, _+_, _/_, _%_, _≤_}
+use Prim.Native.Nat.{ℕ, _+_, _-_, _/_, _%_, _≤_}
 use mathlib.Core.Path.{_≡_}
-use mathlib.Core.Bool.{Bool, true, false, cond, _||_, not}
+use mathlib.Core.Bool.{Bool, cond, _||_, not}
 use mathlib.Core.List.{List, [], _∷_}
 use lib.ListN.{take}
 use lib.Dec.{ltb, leb, eqb}
@@ -251,6 +251,7 @@ unfoldable pub capitalsIn : List Upper → ℕ → List ℕ
 capitalsIn [] c = []
 capitalsIn (u ∷ us) c = cond (eqb c (u .code)) (u .capitals) (capitalsIn us c)
 
+-- "U+0080 to U+00FF and U+0400 to U+045F", the 224 characters of the list
 abbrev pub inTable : ℕ → Bool
 inTable c = within 0x80 0xFF c || within 0x400 0x45F c
 
@@ -266,15 +267,17 @@ flipped c = cond (leb 0x61 c) (bitXor c 0x20) c
 unfoldable pub capital : ℕ → List ℕ
 capital c = cond (ltb c 0x80) (flipped c ∷ []) (cond (inTable c) (encodeAll (capitalsIn uppers c)) [])
 
--- Of the code's table: the two bytes of an entry, the first in the high half; the character of place k; and what the entry there has to be.
+-- Of the code's table, U+0080 to U+00FF: the two bytes of an entry, the first in the high half; and what the entry at place k has to be.
 abbrev pub entryBytes : ℕ → List ℕ
 entryBytes x = (x / 256) ∷ (x % 256) ∷ []
 
-abbrev pub entryCode : ℕ → ℕ
-entryCode k = cond (ltb k 128) (0x80 + k) (0x380 + k)
-
 unfoldable pub entryFor : ℕ → List ℕ
-entryFor k = encodeAll (capitalsIn uppers (entryCode k))
+entryFor k = encodeAll (capitalsIn uppers (0x80 + k))
+
+-- Of the code: the capital of U+0400 to U+045F by change request No. 4, "U+0430 to U+044F go down by 0x20, U+0450 to U+045F by 0x50, U+0400 to U+042F are their own capitals."
+-- No public promise rests on it: `cyrillic-entries` proves it equal to those 96 entries of `uppers`.
+unfoldable pub cyrillicCapital : ℕ → ℕ
+cyrillicCapital c = cond (within 0x430 0x44F c) (c - 0x20) (cond (within 0x450 0x45F c) (c - 0x50) c)
 
 -- the code's bytes are those that stand for a first character; there are none exactly where it is not known
 pub record Capitals (code count one two : ℕ) : Type 0 where

@@ -1,7 +1,7 @@
 // Letter case: the capitals of a first character.
 ghost use mathlib.Core.Path.{_≡_};
-ghost use Prim.Native.Nat.{ℕ, _<_};
-ghost use Rattle.letters.specs.Letters.{flipped, entryBytes, entryFor, Capitals};
+ghost use Prim.Native.Nat.{_<_, _≤_};
+ghost use Rattle.letters.specs.Letters.{flipped, entryBytes, entryFor, cyrillicCapital, Capitals};
 
 // The bytes that stand for a first character; none if it is not known.
 pub struct Capital {
@@ -10,9 +10,8 @@ pub struct Capital {
     pub second: u8,
 }
 
-// The bytes of each entry's capitals, the first in the high half: U+0080 to U+00FF, then U+0400 to
-// U+045F.
-const CAPITALS: [u16; 224] = [
+// The bytes of each entry's capitals, the first in the high half: U+0080 to U+00FF.
+const CAPITALS: [u16; 128] = [
     0xC280,
     0xC281,
     0xC282,
@@ -141,102 +140,6 @@ const CAPITALS: [u16; 224] = [
     0xC39D,
     0xC39E,
     0xC5B8,
-    0xD080,
-    0xD081,
-    0xD082,
-    0xD083,
-    0xD084,
-    0xD085,
-    0xD086,
-    0xD087,
-    0xD088,
-    0xD089,
-    0xD08A,
-    0xD08B,
-    0xD08C,
-    0xD08D,
-    0xD08E,
-    0xD08F,
-    0xD090,
-    0xD091,
-    0xD092,
-    0xD093,
-    0xD094,
-    0xD095,
-    0xD096,
-    0xD097,
-    0xD098,
-    0xD099,
-    0xD09A,
-    0xD09B,
-    0xD09C,
-    0xD09D,
-    0xD09E,
-    0xD09F,
-    0xD0A0,
-    0xD0A1,
-    0xD0A2,
-    0xD0A3,
-    0xD0A4,
-    0xD0A5,
-    0xD0A6,
-    0xD0A7,
-    0xD0A8,
-    0xD0A9,
-    0xD0AA,
-    0xD0AB,
-    0xD0AC,
-    0xD0AD,
-    0xD0AE,
-    0xD0AF,
-    0xD090,
-    0xD091,
-    0xD092,
-    0xD093,
-    0xD094,
-    0xD095,
-    0xD096,
-    0xD097,
-    0xD098,
-    0xD099,
-    0xD09A,
-    0xD09B,
-    0xD09C,
-    0xD09D,
-    0xD09E,
-    0xD09F,
-    0xD0A0,
-    0xD0A1,
-    0xD0A2,
-    0xD0A3,
-    0xD0A4,
-    0xD0A5,
-    0xD0A6,
-    0xD0A7,
-    0xD0A8,
-    0xD0A9,
-    0xD0AA,
-    0xD0AB,
-    0xD0AC,
-    0xD0AD,
-    0xD0AE,
-    0xD0AF,
-    0xD080,
-    0xD081,
-    0xD082,
-    0xD083,
-    0xD084,
-    0xD085,
-    0xD086,
-    0xD087,
-    0xD088,
-    0xD089,
-    0xD08A,
-    0xD08B,
-    0xD08C,
-    0xD08D,
-    0xD08E,
-    0xD08F,
 ];
 
 // ASCII, the crate's short way.
@@ -250,10 +153,24 @@ fn flip(b: u8) -> u8
 }
 
 fn entry(k: usize) -> u16
-    requires { ⌜ k < 224 ⌝ }
+    requires { ⌜ k < 128 ⌝ }
     ensures { λ r. ⌜ entryBytes r ≡ entryFor k ⌝ }
 {
     CAPITALS[k]
+}
+
+// The capital of a Cyrillic character, U+0400 to U+045F, by arithmetic: no table of the code has it.
+fn cyrillic_capital(code: u32) -> u32
+    requires { ⌜ (0x400 ≤ code) × (code ≤ 0x45F) ⌝ }
+    ensures { λ r. ⌜ (r ≡ cyrillicCapital code) × (0x400 ≤ r) × (r ≤ 0x42F) ⌝ }
+{
+    if code < 0x430 {
+        return code;
+    }
+    if code < 0x450 {
+        return code - 0x20;
+    }
+    code - 0x50
 }
 
 fn unknown() -> Capital
@@ -289,11 +206,11 @@ pub fn capital_of(code: u32) -> Capital
         return unknown();
     }
     if code <= 0x45F {
-        let x = entry((code - 0x380) as usize);
+        let c = cyrillic_capital(code);
         return Capital {
             count: 2,
-            first: (x / 256) as u8,
-            second: (x % 256) as u8,
+            first: (0xC0 + c / 64) as u8,
+            second: (0x80 + c % 64) as u8,
         };
     }
     unknown()

@@ -1,4 +1,5 @@
 -- `letters::capital_of` meets its contract. Assumes nothing.
+use mathlib.Core.Path.{refl}
 use borrow.Author.Needs.{needs}
 use native.Mathlib.Omega.{arith}
 use Rattle.letters.proofs.Casing.{ascii, latin, cyrillic, between, beyond}
@@ -35,23 +36,23 @@ unknown-requires c κs = search needs
 returns-3 : tie.Need-returns-3
 returns-3 c = let u = c .unknown .ensures in rw (u .0, u .1, u .2) (between _ (omega arith) (omega arith))
 
-sub-entry : tie.Need-sub-entry
-sub-entry c = search needs
+cyrillic-capital-requires : tie.Need-cyrillic-capital-requires
+cyrillic-capital-requires c κs = search needs
 
-cast-entry-2 : tie.Need-cast-entry-2
-cast-entry-2 c = search needs
+add-t14 : tie.Need-add-t14
+add-t14 c = search needs
 
-entry-requires-2 : tie.Need-entry-requires-2
-entry-requires-2 c κs = search needs
+cast-t15 : tie.Need-cast-t15
+cast-t15 c = search needs
 
-cast-t16 : tie.Need-cast-t16
-cast-t16 c = search needs
+add-t17 : tie.Need-add-t17
+add-t17 c = search needs
 
 cast-t18 : tie.Need-cast-t18
 cast-t18 c = search needs
 
 returns-4 : tie.Need-returns-4
-returns-4 c = cyrillic _ _ _ (omega arith) (omega arith) (c .entry2 .ensures)
+returns-4 c = let e = c .cyrillic-capital .ensures in cyrillic _ _ _ _ (omega arith) (omega arith) (e .0) (e .1) (e .2) refl refl
 
 unknown-requires-2 : tie.Need-unknown-requires-2
 unknown-requires-2 c κs = search needs
@@ -73,10 +74,10 @@ capital-of-spec =
     returns-2
     unknown-requires
     returns-3
-    sub-entry
-    cast-entry-2
-    entry-requires-2
-    cast-t16
+    cyrillic-capital-requires
+    add-t14
+    cast-t15
+    add-t17
     cast-t18
     returns-4
     unknown-requires-2
