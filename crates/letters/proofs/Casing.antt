@@ -3,7 +3,7 @@ use Prim.Native.Nat.{ℕ, _+_, _-_, _/_, _%_, _<_, _≤_}
 use mathlib.Core.Path.{_≡_, refl, ap, sym, _∙_}
 use mathlib.Core.Bool.{Bool, true, false, cond, _&&_}
 use mathlib.Core.List.{List, [], _∷_}
-use lib.Dec.{T, leb, ltb, eqb}
+use lib.Dec.{leb, ltb, eqb}
 use lib.ListN.{length, getD}
 use native.Mathlib.Omega.{arith}
 use borrow.Author.Tests.{lt-ltb, le-ltb, le-leb, lt-leb, leb-true}
@@ -16,7 +16,7 @@ use Rattle.letters.proofs.Range.{every, at, same, same-eq}
 unfoldable pub right : List ℕ → ℕ → Bool
 right table k = same (entryBytes (getD table k 0)) (entryFor k)
 
-pub entry-law : (table : List ℕ) (n : ℕ) → T (every (right table) 0 n) → (k : ℕ) → k < n → entryBytes (getD table k 0) ≡ entryFor k
+pub entry-law : (table : List ℕ) (n : ℕ) → every (right table) 0 n ≡ true → (k : ℕ) → k < n → entryBytes (getD table k 0) ≡ entryFor k
 unfolding right
 entry-law table n t k h = same-eq (entryBytes (getD table k 0)) (entryFor k) (at (right table) 0 n t k (omega arith) (omega arith))
 
@@ -31,9 +31,9 @@ entry-of c a =
 unfoldable follows : ℕ → Bool
 follows c = same (capitalsIn uppers c) (cyrillicCapital c ∷ [])
 
-all-follow : T (every follows 0x400 96)
+all-follow : every follows 0x400 96 ≡ true
 unfolding follows capitalsIn uppers cyrillicCapital
-all-follow = tt
+all-follow = refl
 
 pub cyrillic-entries : (c : ℕ) → 0x400 ≤ c → c ≤ 0x45F → capitalsIn uppers c ≡ cyrillicCapital c ∷ []
 unfolding follows

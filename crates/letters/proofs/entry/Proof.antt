@@ -1,5 +1,6 @@
 -- `letters::entry` meets its contract: one computed test over the whole table, and the law that turns it into the rule at each entry. Assumes nothing.
 use Prim.Native.Nat.{ℕ}
+use mathlib.Core.Path.{refl}
 use mathlib.Core.List.{List, [], _∷_}
 use borrow.Author.Needs.{needs}
 use Rattle.letters.specs.Characters.{encodeAll}
@@ -28,7 +29,7 @@ array-read-result c = search needs
 
 returns : tie.Need-returns
 unfolding table right entryFor encodeAll capitalsIn uppers
-returns c = entry-law table 128 tt (c .args .k) (search needs)
+returns c = entry-law table 128 refl (c .args .k) (search needs)
 
 pub entry-spec : {M : Type 1} → statement M
 entry-spec = tie.close (tie.spec mul-result array-read-result returns)
