@@ -1,6 +1,6 @@
 #!/usr/bin/env python3
 """Holds docs/TRACE.md to the repository: exit status 1 if it names a file or a name that is not there, leaves a must-fail
-edit out, or does not say of an edit whether a definition is edited or a program. Holds docs/PORT.md to it too, in the files
+edit out, or does not say of an edit whether a definition is edited or a program. Holds docs/PORT-OTHER.md to it too, in the files
 and names.
 
 In a table, a pair of backquotes around `PATH` or `PATH: NAME, NAME` names a file below the repository's root, and
@@ -69,7 +69,7 @@ def faults_of_names(text):
 
 def faults():
     found = []
-    for page in ["docs/TRACE.md", "docs/PORT.md"]:
+    for page in ["docs/TRACE.md", "docs/PORT-OTHER.md"]:
         with open(os.path.join(ROOT, page), encoding="utf-8") as file:
             text = file.read()
         edits = faults_of_edits(text) if page == "docs/TRACE.md" else []
