@@ -23,14 +23,14 @@ use passes::Becomes;
 use passes::slots::{BODY_OF, CALLEE, DROPPED, FREE, LATE_BODY, OF_METHOD, OF_TARGET, WRAPPED};
 
 // Where a row is.
-#[derive(Drop)]
+#[derive(Clone, Copy)]
 pub struct Spot {
     pub context: Context,
     pub slot: usize,
 }
 
 // What becomes of a row, and where its first child and its later ones are.
-#[derive(Drop)]
+#[derive(Clone, Copy)]
 pub struct Act {
     pub op: Becomes,
     pub one: Spot,
@@ -38,7 +38,7 @@ pub struct Act {
 }
 
 // The words of a row.
-#[derive(Drop)]
+#[derive(Clone, Copy)]
 pub struct Words {
     pub kind: usize,
     pub attr: usize,

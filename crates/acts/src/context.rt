@@ -6,7 +6,7 @@ ghost use Rattle.acts.specs.View.{switches_of, context_of};
 
 use crate::switches::Switches;
 
-#[derive(Drop)]
+#[derive(Clone, Copy)]
 pub struct Context {
     pub this_at: usize,
     pub super_at: usize,

@@ -5,7 +5,7 @@ ghost use Rattle.acts.specs.View.{switches_of};
 
 use steps::ArrowFunctionConverter;
 
-#[derive(Drop)]
+#[derive(Clone, Copy)]
 pub struct Switches {
     pub arrow_function: bool,
     pub async_to_generator: bool,

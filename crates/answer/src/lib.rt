@@ -1,4 +1,7 @@
 // What `convert` answers, and the request's numbers of each answer.
+
+#![tactic(auto)]
+
 ghost use Rattle.std.specs.Prelude.{◌≡◌};
 ghost use Rattle.answer.specs.Answer.{number_of, place_of, rows_of, bindings_of};
 
@@ -6,7 +9,7 @@ use refusals::Refused;
 use rows::Checked;
 
 // What becomes of a call.
-#[derive(Drop)]
+#[derive(Clone, Copy)]
 pub enum Converted {
     // Refusals 1, 4, 21 to 25, 3 and 5.
     Unsound { checked: Checked },

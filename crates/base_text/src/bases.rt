@@ -5,7 +5,7 @@ ghost use Rattle.base_text.specs.Bases.{PartOf};
 use crate::bindings::{ARGUMENTS, GET, PROP, SET, THIS};
 
 // A part of the bases, which stand one after the other.
-#[derive(Drop)]
+#[derive(Clone, Copy)]
 pub struct Part {
     pub from: usize,
     pub count: usize,

@@ -7,7 +7,7 @@ use letters::capital_of;
 use names::utf8::{byte, seq_at};
 
 // Its width, and the bytes that stand for it.
-#[derive(Drop)]
+#[derive(Clone, Copy)]
 pub struct Head {
     pub width: usize,
     pub count: usize,

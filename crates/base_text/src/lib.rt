@@ -1,5 +1,8 @@
 // Base text: the spelled base of a made binding. Refusals 1, 4, 11, 10 and 9, in that order. A maker of
 // names has it in two parts: what is the same for all bindings, and the text of one.
+
+#![tactic(auto)]
+
 mod bases;
 mod bindings;
 mod head;
@@ -14,14 +17,14 @@ use bindings::{MOST_RECORDS, RECORD_BYTES};
 use names::Found;
 
 // The property of an accessor: the number of its name, from 1, or none.
-#[derive(Drop)]
+#[derive(Clone, Copy)]
 pub enum Property {
     Named(usize),
     Absent,
 }
 
 // The refusals of base text, which the maker of names shares.
-#[derive(Drop)]
+#[derive(Clone, Copy)]
 pub enum Refusal {
     Malformed,
     BadName { name: u32 },
@@ -31,14 +34,14 @@ pub enum Refusal {
 }
 
 // Whether a test was passed.
-#[derive(Drop)]
+#[derive(Clone, Copy)]
 pub enum Tested {
     Passed,
     Refused(Refusal),
 }
 
 // What base text answers.
-#[derive(Drop)]
+#[derive(Clone, Copy)]
 pub enum Spelling {
     Written { bytes: u32 },
     Refused(Refusal),

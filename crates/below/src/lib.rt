@@ -1,5 +1,8 @@
 // What stands right below a row of a table: the first rows of the three levels under it, read from
 // the bytes.
+
+#![tactic(auto)]
+
 ghost use Rattle.std.specs.Prelude.{◌≡◌, ◌+◌, ◌*◌, ◌<◌, length};
 ghost use Rattle.names.specs.Words.{words, kind_at, attr_at, name_at, end_at, rows_in};
 ghost use Rattle.steps.specs.Super.{first_super, first_access, first_name, first_inside};
@@ -10,7 +13,7 @@ use grammar::kinds::{CALL, COMPUTED, MEMBER, SUPER};
 use names::words::cell;
 
 // The kinds of the first rows of three levels, each below the one before, and the second one's name.
-#[derive(Drop)]
+#[derive(Clone, Copy)]
 struct Levels {
     one: usize,
     two: usize,
@@ -19,7 +22,7 @@ struct Levels {
 }
 
 // What a walk asks of the rows below a row.
-#[derive(Drop)]
+#[derive(Clone, Copy)]
 pub struct Below {
     pub first_super: bool,
     pub first_access: bool,

@@ -12,7 +12,7 @@ ghost use Rattle.bindings.specs.Filed.{Filed, behind};
 use crate::{add, add_params, bucket, capture_table, entry, file, is_it, push, put};
 use buckets::pick;
 
-#[derive(Drop)]
+#[derive(Clone, Copy)]
 pub struct Frame {
     pub row: usize,
     pub count: usize,

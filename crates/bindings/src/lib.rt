@@ -2,6 +2,9 @@
 // use, property, frame, and the next of its chain. By frame: the captures of `this` and of
 // `arguments`, the first and last accessor, the first and last parameter of accessors. By bucket: its
 // last accessor; by accessor: the one before it in its bucket.
+
+#![tactic(auto)]
+
 pub mod frame;
 
 ghost use Rattle.std.specs.Prelude.{◌≡◌, Bool, true, cond, ℕ, ◌+◌, ◌*◌, ◌<◌, ◌≤◌, List, [], ◌∷◌, ◌++◌, length, get_or, set};

@@ -4,6 +4,9 @@
 //
 // A made name is an underscore and the base text, here `_this`; where a script has that name already, it is `_this2`, or the
 // first number from there on that no name has.
+
+#![tactic(auto)]
+
 ghost use Rattle.std.specs.Prelude.{◌≡◌, ℕ, ◌+◌, ◌≤◌, ◌<◌, ◌^◌, length};
 ghost use Rattle.base_text.specs.Refusals.{front_of, fault_of, base_text};
 ghost use Rattle.decimal.specs.Decimal.{Wrote};

@@ -1,5 +1,8 @@
 // The first walk: the bindings, "captures and accessors when first met on the walk, prop and value as
 // the frame closes".
+
+#![tactic(auto)]
+
 ghost use Rattle.std.specs.Prelude.{◌≡◌, Bool, ℕ, []};
 ghost use Rattle.names.specs.Words.{words, rows_in};
 ghost use Rattle.forest.specs.Forest.{rows_at, table};

@@ -1,5 +1,8 @@
 // The program: a sheet on the standard input, its answer on the standard output. The answer is
 // whole before its first byte is written.
+
+#![tactic(auto)]
+
 ghost use Rattle.std.specs.Prelude.{◌≡◌, List, [], ◌+◌, ◌*◌, ◌/◌, ◌≤◌, ◌<◌, ◌^◌, length, take};
 ghost use Rattle.names.specs.Words.{words};
 ghost use Rattle.steps.specs.Mode.{switches};

@@ -1,4 +1,7 @@
 // The converter's entry: every refusal in the request's order, and the result.
+
+#![tactic(auto)]
+
 mod result;
 
 ghost use Rattle.std.specs.Prelude.{◌≡◌};

@@ -1,5 +1,8 @@
 // Writing bytes, and numbers in decimal. Each function writes from byte `at` on, drops what does not
 // fit, and answers where it stopped, as if there were room for all.
+
+#![tactic(auto)]
+
 ghost use Rattle.std.specs.Prelude.{◌≡◌, List, [], ◌∷◌, ℕ, ◌+◌, ◌≤◌, ◌<◌, ◌^◌, length};
 ghost use Rattle.decimal.specs.Decimal.{decimal, Wrote};
 

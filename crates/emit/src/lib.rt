@@ -1,4 +1,7 @@
 // The second walk: the rows of the result, written from the rows and the bindings.
+
+#![tactic(auto)]
+
 mod walkers;
 
 ghost use Rattle.std.specs.Prelude.{◌<◌, ◌^◌};

@@ -24,7 +24,7 @@ use Rattle.steps.specs.Fused.{top_s, build_s, declared}
 use Rattle.bindings.specs.Store.{Store, capture_table}
 use Rattle.bindings.proofs.Captures.{table_is}
 use Rattle.bindings.proofs.Numbered.{number_capture, this_number}
-use Rattle.insertion.specs.Declared.{frame_decls}
+use Rattle.insertion.specs.Declarations.{frame_decls}
 use Rattle.insertion.proofs.Tops.{frame-decls}
 use Rattle.passes.specs.View.{op_of}
 use Rattle.output.specs.Output.{Done}

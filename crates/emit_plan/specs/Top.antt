@@ -5,7 +5,7 @@ use Rattle.forest.specs.Forest.{Rows, Rows.none}
 use Rattle.steps.specs.Slots.{late_body}
 use Rattle.steps.specs.Bindings.{closes}
 use Rattle.steps.specs.TopInsertion.{var_first}
-use Rattle.insertion.specs.Declared.{frame_decls}
+use Rattle.insertion.specs.Declarations.{frame_decls}
 use Rattle.emit_plan.specs.declared.Walk.{Walk}
 
 -- what goes first inside a row of kind k in that slot, where r is the frame

@@ -1,5 +1,8 @@
 // What the second walk decides of a row before it is written, and the rows that it puts in beside the
 // table's own: outside of the walkers, which only write.
+
+#![tactic(auto)]
+
 pub mod bodies;
 pub mod identifiers;
 pub mod plans;
@@ -11,7 +14,7 @@ use passes::Becomes;
 use plan::place::Place;
 
 // What stays the same on the whole walk: the switches, and the size and count of the bindings' array.
-#[derive(Drop)]
+#[derive(Clone, Copy)]
 pub struct Walk {
     pub switches: Switches,
     pub cap: usize,
@@ -20,7 +23,7 @@ pub struct Walk {
 
 // A list of siblings, from row `from` to row `end`, and how it is walked: the binding that module 7
 // assigns in it and the state of its first row, and where the first one and the later ones are.
-#[derive(Drop)]
+#[derive(Clone, Copy)]
 pub struct Siblings {
     pub from: usize,
     pub end: usize,
@@ -33,7 +36,7 @@ pub struct Siblings {
 // All that is decided of a row before it is written: its children, where it is and its slot, the binding
 // that module 7 assigns around it, its words, what becomes of it, and what module 7 says of it: whether it
 // becomes a Sequence, whether the assignment goes behind it, and the state of the rows after it.
-#[derive(Drop)]
+#[derive(Clone, Copy)]
 pub struct Plan {
     pub inner: Siblings,
     pub spot: Place,

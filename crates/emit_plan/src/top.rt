@@ -1,7 +1,7 @@
 // Module 8, Top insertion: the Var of a frame.
 ghost use Rattle.std.specs.Prelude.{◌+◌, ◌<◌, ◌^◌};
 ghost use Rattle.forest.specs.Forest.{size};
-ghost use Rattle.insertion.specs.Declared.{Held};
+ghost use Rattle.insertion.specs.Declarations.{Held};
 ghost use Rattle.output.specs.Output.{Done};
 ghost use Rattle.emit_plan.specs.Top.{top_rows};
 

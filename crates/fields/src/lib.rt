@@ -1,4 +1,7 @@
 // Lines and fields of a text, and the numbers in them.
+
+#![tactic(auto)]
+
 ghost use Rattle.std.specs.Prelude.{◌≡◌, ℕ, ◌+◌, ◌*◌, ◌≤◌, ◌<◌, eqb, length, drop, get_or};
 ghost use Rattle.fields.specs.Headers.{switch_header, name_header, row_header};
 ghost use Rattle.fields.specs.Fields.{up_to, part, fields, number, row_words, row_of, same_bytes, Next, switches_ok};
@@ -38,7 +41,7 @@ pub fn next_line(s: &[u8], e: usize) -> usize
 }
 
 // What a field spells.
-#[derive(Drop)]
+#[derive(Clone, Copy)]
 pub enum Number {
     Value(u32),
     Bad,
@@ -84,7 +87,7 @@ fn number_at(s: &[u8], from: usize, to: usize) -> Number
 }
 
 // What a line spells.
-#[derive(Drop)]
+#[derive(Clone, Copy)]
 pub enum Row {
     Words(u32, u32, u32, u32),
     Fault,

@@ -1,5 +1,8 @@
 // Whether a text of any length is a sheet, in pieces of any length: what goes from piece to piece is a few
 // numbers and the first bytes of the line that the piece before ended in.
+
+#![tactic(auto)]
+
 ghost use Rattle.std.specs.Prelude.{◌≡◌, ℕ, ◌+◌, ◌≤◌, ◌<◌, ◌^◌, length, take};
 ghost use Rattle.fields.specs.Fields.{fields, row_of};
 ghost use Rattle.form.specs.Form.{spelled, wanted, told, settled, step, scan, close, stand_of, point_of, Fits, Ended};
@@ -17,7 +20,7 @@ const KEPT: usize = 44;
 // Which line comes next, from 1, what it is to be, and how many rows there have been; and how many of its
 // first bytes are kept. Part 1 is the header of the switches, 2 the switches, 3 the header of the names, 4 a
 // name or the header of the rows, 5 a row; 0 says that the line is faulty.
-#[derive(Drop)]
+#[derive(Clone, Copy)]
 pub struct Form {
     pub part: usize,
     pub line: usize,

@@ -1,4 +1,7 @@
 // The grammar of the 28 kinds: what stands where, attr, name, number of children.
+
+#![tactic(auto)]
+
 pub mod kinds;
 
 ghost use Rattle.std.specs.Prelude.{◌≡◌, true, ℕ, ◌<◌};

@@ -1,5 +1,8 @@
 // The rows that modules 7 and 8 put in. Each function writes them from row `at` on, and the answer
 // is the next row's number.
+
+#![tactic(auto)]
+
 ghost use Rattle.std.specs.Prelude.{◌≡◌, ◌+◌, ◌<◌, ◌^◌};
 ghost use Rattle.forest.specs.Forest.{Rows.none, size};
 ghost use Rattle.steps.specs.AfterSuper.{assignment};

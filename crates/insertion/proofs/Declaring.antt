@@ -18,7 +18,7 @@ use Rattle.output.proofs.Loops.{Left, all_left, turn, room_left, none_left}
 use Rattle.inserted.proofs.Shapes.{accessor-heads}
 use Rattle.bindings.specs.Search.{of_class}
 use Rattle.bindings.specs.Store.{bind_at, binds, Store}
-use Rattle.insertion.specs.Declared.{Held, frame_accessors, param_after}
+use Rattle.insertion.specs.Declarations.{Held, frame_accessors, param_after}
 use Rattle.insertion.proofs.Links.{Link, from, Passes, link-first, all_from, here-from, link-next, rest_from, link-less}
 
 -- numbers of params, and Declarators of accessors, pass over all other bindings

@@ -19,7 +19,7 @@ use Rattle.output.proofs.Writing.{size-join, size_node, size_none}
 use Rattle.inserted.proofs.Shapes.{this_none, arguments_none, arguments_join, size_arguments, size-late, size-here}
 use Rattle.bindings.specs.Store.{binds, Store}
 use Rattle.bindings.proofs.Numbered.{this_number, arguments_number}
-use Rattle.insertion.specs.Declared.{Held, frame_accessors, frame_decls, param_after, bare_at}
+use Rattle.insertion.specs.Declarations.{Held, frame_accessors, frame_decls, param_after, bare_at}
 use Rattle.insertion.proofs.Links.{link-first}
 use Rattle.insertion.proofs.Declaring.{decls_from, decls-all, decls-next}
 

@@ -1,11 +1,14 @@
 // Module 8, Top insertion: the Var that goes first in a frame, written from the bindings' array.
+
+#![tactic(auto)]
+
 ghost use Rattle.std.specs.Prelude.{◌≡◌, ◌+◌, ◌*◌, ◌<◌, ◌≤◌, ◌^◌, length, get_or};
 ghost use Rattle.grammar.specs.Kinds.{Var};
 ghost use Rattle.forest.specs.Forest.{Rows.none, Rows.node, size};
 ghost use Rattle.steps.specs.TopInsertion.{var_first};
 ghost use Rattle.output.specs.Output.{Done};
 ghost use Rattle.output.specs.Held.{grown};
-ghost use Rattle.insertion.specs.Declared.{Held, frame_accessors, frame_decls, param_after, bare_at};
+ghost use Rattle.insertion.specs.Declarations.{Held, frame_accessors, frame_decls, param_after, bare_at};
 
 use bindings::entry;
 use grammar::kinds;

@@ -1,9 +1,12 @@
 // Letter case: the capitals of a first character.
+
+#![tactic(auto)]
+
 ghost use Rattle.std.specs.Prelude.{◌≡◌, ◌<◌, ◌≤◌};
 ghost use Rattle.letters.specs.Letters.{flipped, entry_bytes, entry_for, cyrillic_capital, Capitals};
 
 // The bytes that stand for a first character; none if it is not known.
-#[derive(Drop)]
+#[derive(Clone, Copy)]
 pub struct Capital {
     pub count: usize,
     pub first: u8,

@@ -3,13 +3,16 @@
 //     () => this          var _this = this; (function () { return _this; });
 //
 // The Ident `_this` has attr 1 and number 1, and its spelling is the part of the made text that made pair 1 names.
+
+#![tactic(auto)]
+
 ghost use Rattle.std.specs.Prelude.{◌≡◌, Bool, ℕ, length};
 ghost use Rattle.lookup.specs.Parts.{spells, spelling_of, number_of, PartIn, PartOf};
 
 use names::words::cell;
 
 // A part of a text, and whether there is one; where there is none it is empty.
-#[derive(Drop)]
+#[derive(Clone, Copy)]
 pub struct Part {
     pub there: bool,
     pub start: usize,

@@ -4,6 +4,9 @@
 //
 // Binding 1 is named `_this`; in a script that has a `_this` of its own it is named `_this2`. All names are found before
 // one is written, since 9 has to leave what is lent as it was.
+
+#![tactic(auto)]
+
 mod sizes;
 mod write;
 
@@ -14,7 +17,7 @@ ghost use Rattle.made_names.specs.Naming.{named, Makes};
 use base_text::{Refusal, Tested};
 
 // What the maker of names answers.
-#[derive(Drop)]
+#[derive(Clone, Copy)]
 pub enum Naming {
     Made { pairs: u32, bytes: u32 },
     Refused(Refusal),

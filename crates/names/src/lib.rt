@@ -1,5 +1,8 @@
 // The names of a table: pairs (start, length) over a text, and what both stand in, little-endian
 // words and UTF-8. Refusal 4, and the sizes of names and text that refusal 1 tests.
+
+#![tactic(auto)]
+
 pub mod utf8;
 pub mod words;
 
@@ -10,7 +13,7 @@ use crate::utf8::is_utf8;
 use crate::words::cell;
 
 // The lowest number of which a test holds, where there is one.
-#[derive(Drop)]
+#[derive(Clone, Copy)]
 pub enum Found {
     At(usize),
     Nothing,

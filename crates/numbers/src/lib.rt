@@ -6,6 +6,9 @@
 // their bytes: whether a name is taken is found without a search of all entries. An entry that is the bare name of a base, as
 // `_this`, keeps how far the numbers behind it are known to be taken, so that no search starts anew: of 16,383 captures of `this`
 // each takes a few steps.
+
+#![tactic(auto)]
+
 ghost use Rattle.std.specs.Prelude.{◌≡◌, List, [], ◌∷◌, ◌++◌, ℕ, ◌+◌, ◌*◌, ◌%◌, ◌≤◌, ◌<◌, ◌^◌, length, get_or, set};
 ghost use Rattle.names.specs.Words.{names_in};
 ghost use Rattle.names.specs.Names.{bytes_of, same_bytes};

@@ -1,5 +1,8 @@
 // Writing rows and records into bytes that the caller lends. A row or record that does not lie
 // whole in the bytes is left out, and the count goes on: over no bytes at all, a walk counts.
+
+#![tactic(auto)]
+
 pub mod writer;
 
 ghost use Rattle.std.specs.Prelude.{◌≡◌, ◌+◌, ◌≤◌, ◌<◌, ◌^◌, length};

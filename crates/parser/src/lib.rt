@@ -1,5 +1,8 @@
 // Reading a sheet: its switches, the bytes of its rows, of its name pairs and of its text, or the
 // first line that is faulty or missing, from 1.
+
+#![tactic(auto)]
+
 mod store;
 
 ghost use Rattle.std.specs.Prelude.{◌≡◌, ℕ, ◌+◌, ◌*◌, ◌≤◌, ◌<◌, ◌^◌, length, drop};
@@ -22,7 +25,7 @@ const NEWLINE: u8 = 10;
 const MOST_ROWS: usize = 1024;
 
 // How many rows there are, or the first line at fault.
-#[derive(Drop)]
+#[derive(Clone, Copy)]
 pub enum Lines {
     Count(usize),
     Wrong(usize),
@@ -53,7 +56,7 @@ fn read_rows(s: &[u8], at: usize, line: usize, rows: &mut [u8]) -> Lines
 
 // Where the row lines start, how many names there are, and how many bytes they have; or the line
 // that is missing.
-#[derive(Drop)]
+#[derive(Clone, Copy)]
 pub enum Names {
     Past(usize, usize, usize),
     Missing(usize),
@@ -91,7 +94,7 @@ fn read_names(s: &[u8], at: usize, pairs: &mut [u8], text: &mut [u8]) -> Names
 
 // A sheet: its switches, and how many rows, names and bytes of text stand at the front of what was
 // lent for them; or the first line that is faulty or missing.
-#[derive(Drop)]
+#[derive(Clone, Copy)]
 pub enum Parsed {
     Sheet {
         arrow: bool,

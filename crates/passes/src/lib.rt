@@ -1,4 +1,7 @@
 // Module 7, After super: what is done with each row while the converted body is written.
+
+#![tactic(auto)]
+
 pub mod slots;
 pub mod states;
 
@@ -16,7 +19,7 @@ use slots::{BODY_OF, LATE_BODY, WRAPPED};
 use states::{COPY, DIRECT, HERITAGE, LIST, MEMBERS, ONCE, VISIT};
 
 // What becomes of a row.
-#[derive(Drop)]
+#[derive(Clone, Copy)]
 pub enum Becomes {
     // A row of these words around what its children become.
     Row {
@@ -42,7 +45,7 @@ pub enum Becomes {
 
 // What module 7 says of a row: whether it becomes a Sequence, whether the assignment goes behind it,
 // the state of its children and of the rows after it, and the binding assigned in its children.
-#[derive(Drop)]
+#[derive(Clone, Copy)]
 pub struct Pass {
     pub met: bool,
     pub first: bool,

@@ -1,4 +1,7 @@
 // What is done with row i of a table, read from its bytes.
+
+#![tactic(auto)]
+
 pub mod late;
 mod often;
 pub mod place;
@@ -27,7 +30,7 @@ use place::{Place, placed};
 use spelling::is_arguments;
 
 // What becomes of a row, and where its first child and its later ones are.
-#[derive(Drop)]
+#[derive(Clone, Copy)]
 pub struct Act {
     pub op: Becomes,
     pub one: Place,

@@ -13,7 +13,7 @@ use passes::slots::FREE;
 
 // Bits 0 to 2: slot. Bit 3: takes_this. Bit 4: takes_super. Bit 5: takes_arguments. Bits 6 to 19:
 // this_at. Bits 20 to 33: super_at. Bits 34 to 47: arguments_at.
-#[derive(Drop)]
+#[derive(Clone, Copy)]
 pub struct Place {
     pub code: usize,
 }

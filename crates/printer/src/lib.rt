@@ -1,5 +1,8 @@
 // Printing an answer. Each function writes from byte `at` on, drops what does not fit, and answers
 // where it stopped, as if there were room for all.
+
+#![tactic(auto)]
+
 ghost use Rattle.std.specs.Prelude.{◌≡◌, List, [], ◌∷◌, ◌++◌, ℕ, ◌+◌, ◌*◌, ◌/◌, ◌≤◌, ◌<◌, ◌^◌, length, get_or};
 ghost use Rattle.names.specs.Words.{words};
 ghost use Rattle.decimal.specs.Decimal.{decimal, Wrote};

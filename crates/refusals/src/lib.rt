@@ -1,4 +1,7 @@
 // Refusals 6, 7 and 8 of a table that `rows::check` accepts.
+
+#![tactic(auto)]
+
 pub mod firsts;
 mod standing;
 
@@ -16,7 +19,7 @@ use names::Found;
 use steps::ArrowFunctionConverter;
 
 // What the refusals 6, 7 and 8 say of a table.
-#[derive(Drop)]
+#[derive(Clone, Copy)]
 pub enum Refused {
     Not,
     SuperNotAllowed { row: usize },

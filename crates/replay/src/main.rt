@@ -1,5 +1,8 @@
 // Runs the stored tables of the standard input through `rows::check` and compares each answer with the stored one.
 // The input's head comment describes its form. A table that differs has a line of its own; the last line counts both.
+
+#![tactic(auto)]
+
 ghost use Rattle.std.specs.Prelude.{◌≡◌, ◌≤◌, ◌<◌, length};
 
 use rows::{Checked, Limits};
@@ -15,7 +18,7 @@ fn row_room() -> [u8; 262208]
 }
 
 // An answer: the refusal's number and its place.
-#[derive(Drop)]
+#[derive(Clone, Copy)]
 struct Answer {
     number: u64,
     place: u64,

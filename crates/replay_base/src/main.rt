@@ -1,5 +1,8 @@
 // Runs the stored calls of the standard input through `thawcopper_base_text` and compares each answer, and every byte lent, with
 // the stored ones. The input's head comment describes its form. A call that differs has a line of its own; the last line counts both.
+
+#![tactic(auto)]
+
 ghost use Rattle.std.specs.Prelude.{◌≡◌, ◌+◌, ◌≤◌, ◌<◌, length};
 
 use thawcopper::Spelled;

@@ -1,6 +1,9 @@
 // Runs the stored conversions of the standard input through `thawcopper_convert_with` and compares each answer, and every byte
 // lent, with the stored ones. The input's head comment describes its form. A conversion that differs has a line of its own;
 // the last line counts both.
+
+#![tactic(auto)]
+
 ghost use Rattle.std.specs.Prelude.{◌≡◌, ◌+◌, ◌≤◌, ◌<◌, length};
 
 use thawcopper::Answer;
@@ -60,7 +63,7 @@ fn answer_at(words: &[u32], at: usize) -> Answer
 }
 
 // What a conversion asks for: its own number, the options, and how many bytes are lent for rows and for records.
-#[derive(Drop)]
+#[derive(Clone, Copy)]
 struct Asked {
     number: usize,
     options: u32,
@@ -135,7 +138,7 @@ fn compared(n: usize, got: Answer, want: Answer, rows: bool, records: bool) -> u
 }
 
 // The stored answer, and how many bytes its rows and its records have.
-#[derive(Drop)]
+#[derive(Clone, Copy)]
 struct Want {
     answer: Answer,
     rows: usize,
@@ -180,7 +183,7 @@ fn bytes_of_records(count: u32) -> usize {
 }
 
 // The result that is stored: its rows and records are laid out, `at` is the word after it.
-#[derive(Drop)]
+#[derive(Clone, Copy)]
 struct Kept {
     good: bool,
     want: Want,

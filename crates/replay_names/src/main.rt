@@ -1,6 +1,9 @@
 // Runs the stored calls of the standard input through `thawcopper_make_names` and `thawcopper_spelling` and compares each answer,
 // and every byte lent to the maker, with the stored ones. The input's head comment describes its form. A call that differs has a
 // line of its own; the last line counts both.
+
+#![tactic(auto)]
+
 ghost use Rattle.std.specs.Prelude.{◌≡◌, ◌+◌, ◌≤◌, ◌<◌, length};
 
 use vectors::runs::{Built, Names};
@@ -13,7 +16,7 @@ const MAKER: u32 = 1;
 const LOOKUP: u32 = 2;
 
 // An answer's four numbers: the maker's refusal, place, pairs and bytes, or the lookup's refusal, start and bytes, and a 0.
-#[derive(Drop)]
+#[derive(Clone, Copy)]
 struct Answer {
     first: u32,
     second: u32,
@@ -54,7 +57,7 @@ fn answer_at(words: &[u32], at: usize) -> Answer
 
 // What a call asks for: its own number, the entry, and for the maker the bytes lent for pairs and for text, for the lookup attr
 // and number.
-#[derive(Drop)]
+#[derive(Clone, Copy)]
 struct Asked {
     number: usize,
     entry: u32,

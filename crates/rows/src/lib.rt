@@ -1,5 +1,8 @@
 // The table of rows: the refusals 1, 4, 21 to 25, 3 and 5 in that order. Everything that decides
 // whether bytes are a table at all.
+
+#![tactic(auto)]
+
 mod made;
 
 ghost use Rattle.std.specs.Prelude.{◌≡◌, Bool, ℕ, ◌≤◌};
@@ -12,7 +15,7 @@ use forest::faults::first_fault;
 use names::Found;
 
 // How large a table may be. A limit over 16,384 counts as 16,384.
-#[derive(Drop)]
+#[derive(Clone, Copy)]
 pub struct Limits {
     pub rows: usize,
     pub depth: usize,
@@ -47,7 +50,7 @@ pub fn limits_for(tablet: bool) -> Limits
 // What is wrong with a bad row: a kind that is not in the list, an attr that the kind or its place
 // does not allow, an `end` at fault, a place or a number of children that is not allowed, a name
 // outside its rule.
-#[derive(Drop)]
+#[derive(Clone, Copy)]
 pub enum Fault {
     Kind,
     Attr,
@@ -85,7 +88,7 @@ fn fault_by_class(class: u32) -> Fault
 }
 
 // What the checks of this layer say of a table.
-#[derive(Drop)]
+#[derive(Clone, Copy)]
 pub enum Checked {
     Sound,
     Malformed,

@@ -1,4 +1,7 @@
 // Names, by their bytes.
+
+#![tactic(auto)]
+
 ghost use Rattle.std.specs.Prelude.{◌≡◌, true, ◌<◌};
 ghost use Rattle.names.specs.Names.{same_bytes, same_name, is_arguments};
 ghost use Rattle.names.specs.Names.{bytes_of};

@@ -1,9 +1,12 @@
 // Module 1: the mode, from the three switches of the target.
+
+#![tactic(auto)]
+
 ghost use Rattle.std.specs.Prelude.{◌≡◌};
 ghost use Rattle.steps.specs.Mode.{mode_of, switches, is_disabled, is_async_only, moves};
 
 // The mode of the conversion of arrow functions.
-#[derive(Drop)]
+#[derive(Clone, Copy)]
 pub enum ArrowFunctionConverterMode {
     // Rows are copied, and no bindings are made.
     Disabled,
@@ -14,7 +17,7 @@ pub enum ArrowFunctionConverterMode {
 }
 
 // What the switches of the target say.
-#[derive(Drop)]
+#[derive(Clone, Copy)]
 pub struct ArrowFunctionConverter {
     pub mode: ArrowFunctionConverterMode,
     pub async_to_generator_enabled: bool,

@@ -1,5 +1,8 @@
 // The C boundary: what a host links against. A slice is a pointer and a length, words are
 // little-endian. Every input is answered, and a refusal leaves what was lent as it was.
+
+#![tactic(auto)]
+
 ghost use Rattle.std.specs.Prelude.{◌≡◌, false, ℕ, ◌<◌, ◌^◌, length};
 ghost use Rattle.base_text.specs.Refusals.{number_of, place_of, answer_number, answer_place, count_of, base_text, spelled};
 ghost use Rattle.candidates.specs.MadeNames.{made_names};
@@ -18,7 +21,7 @@ use made_names::{Naming, make_names};
 
 // What base text answers: the request's number and place, and how many bytes were written.
 #[repr(C)]
-#[derive(Drop)]
+#[derive(Clone, Copy)]
 pub struct Spelled {
     pub refusal: u32,
     pub place: u32,
@@ -77,7 +80,7 @@ pub extern "C" fn thawcopper_base_text(
 // What the maker of names answers: the request's number and place, and how many pairs and bytes were
 // written.
 #[repr(C)]
-#[derive(Drop)]
+#[derive(Clone, Copy)]
 pub struct Named {
     pub refusal: u32,
     pub place: u32,
@@ -129,7 +132,7 @@ pub extern "C" fn thawcopper_make_names(
 
 // What the spelling of an Ident answers: 18 or 0, and where its part starts and how long it is.
 #[repr(C)]
-#[derive(Drop)]
+#[derive(Clone, Copy)]
 pub struct Part {
     pub refusal: u32,
     pub start: u32,
@@ -161,7 +164,7 @@ pub extern "C" fn thawcopper_spelling(
 
 // What convert answers: the request's number and place, and how many rows and bindings were written.
 #[repr(C)]
-#[derive(Drop)]
+#[derive(Clone, Copy)]
 pub struct Answer {
     pub refusal: u32,
     pub place: u32,

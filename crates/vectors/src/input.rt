@@ -64,7 +64,7 @@ fn skip(s: &[u8], from: usize) -> usize
     at
 }
 
-#[derive(Drop)]
+#[derive(Clone, Copy)]
 struct Number {
     good: bool,
     value: u32,
@@ -123,7 +123,7 @@ fn number_at(s: &[u8], from: usize) -> Number
 }
 
 // How many numbers were read, and whether the input held nothing else.
-#[derive(Drop)]
+#[derive(Clone, Copy)]
 pub struct Read {
     pub good: bool,
     pub count: usize,

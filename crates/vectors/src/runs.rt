@@ -35,7 +35,7 @@ pub fn text_room() -> [u8; 65552]
 
 // What a run repeats. One field grows from item to item: a row's end, a record's frame, a pair's start,
 // the byte.
-#[derive(Drop)]
+#[derive(Clone, Copy)]
 enum Item {
     Row {
         kind: u32,
@@ -202,7 +202,7 @@ fn put_item(out: &mut [u8], at: usize, item: Item)
 }
 
 // How many bytes there are now, and whether all of them had room.
-#[derive(Drop)]
+#[derive(Clone, Copy)]
 struct Laid {
     good: bool,
     len: usize,
@@ -230,7 +230,7 @@ fn put_items(out: &mut [u8], room: usize, from: usize, first: Item, times: u32, 
 }
 
 // A part of a table: how many bytes it has, and the word after it.
-#[derive(Drop)]
+#[derive(Clone, Copy)]
 pub struct Part {
     pub good: bool,
     pub len: usize,
@@ -299,7 +299,7 @@ fn part_with_zeros(words: &[u32], from: usize, out: &mut [u8], room: usize, widt
 }
 
 // Names that were built: the bytes of their pairs and of their text, and the word after them.
-#[derive(Drop)]
+#[derive(Clone, Copy)]
 pub struct Names {
     pub good: bool,
     pub pairs: usize,
@@ -323,7 +323,7 @@ pub fn build_names(words: &[u32], from: usize, pairs: &mut [u8], text: &mut [u8]
 }
 
 // A case that was built: the bytes of its three parts, and the word after them.
-#[derive(Drop)]
+#[derive(Clone, Copy)]
 pub struct Built {
     pub good: bool,
     pub first: usize,

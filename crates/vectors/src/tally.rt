@@ -1,14 +1,14 @@
 // How many cases there are, and how many of them differ.
 ghost use Rattle.std.specs.Prelude.{◌≡◌, ◌+◌, ◌≤◌};
 
-#[derive(Drop)]
+#[derive(Clone, Copy)]
 pub struct Tally {
     pub cases: usize,
     pub differ: usize,
 }
 
 // 1 where a case's answer is not the stored one, else 0; and the word after the case.
-#[derive(Drop)]
+#[derive(Clone, Copy)]
 pub struct Turn {
     pub differ: usize,
     pub at: usize,

@@ -1,5 +1,8 @@
 // The result of an accepted table, over an array that is lent for its bindings: the first walk, what 9
 // needs to know, and the second walk; or the rows as they are, where neither has anything to do.
+
+#![tactic(auto)]
+
 mod copy;
 
 ghost use Rattle.std.specs.Prelude.{◌≡◌, true, leb};

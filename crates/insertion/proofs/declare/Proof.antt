@@ -50,7 +50,7 @@ use Rattle.output.specs.contracts.writer.Writer as T
 use Rattle.output.proofs.writer.Writer.TheLaws as T'
 use Rattle.output.proofs.Lending.{bytes, Lent, Open, lend, recover}
 use Rattle.output.proofs.Holding.{first, writes, lowered, spent, spent-goes}
-use Rattle.insertion.specs.Declared.{Held, frame_decls}
+use Rattle.insertion.specs.Declarations.{Held, frame_decls}
 use Rattle.insertion.specs.contracts.declarators as callee
 use Rattle.insertion.proofs.declarators.Symbol as callee-def
 use Rattle.insertion.proofs.declarators.Symbol.{name as #callee}

@@ -48,7 +48,7 @@ use Rattle.output.proofs.Runs.{around}
 use Rattle.output.proofs.Lending.{bytes, Lent}
 use Rattle.output.proofs.Holding.{first, writes, typed}
 use Rattle.output.specs.contracts.writer.Writer as T
-use Rattle.insertion.specs.Declared.{Held, frame_decls}
+use Rattle.insertion.specs.Declarations.{Held, frame_decls}
 use Rattle.output.specs.contracts.writer.new as new
 use Rattle.output.proofs.writer.new.Symbol as new-def
 use Rattle.output.proofs.writer.new.Symbol.{name as #new}

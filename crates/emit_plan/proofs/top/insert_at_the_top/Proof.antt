@@ -7,7 +7,7 @@ use Rattle.grammar.specs.Kinds.{Program}
 use Rattle.forest.specs.Forest.{Rows.none, size}
 use Rattle.steps.specs.Slots.{late_body}
 use Rattle.steps.specs.TopInsertion.{var_first}
-use Rattle.insertion.specs.Declared.{frame_decls}
+use Rattle.insertion.specs.Declarations.{frame_decls}
 use Rattle.output.proofs.Writing.{nothing}
 use borrow.Author.Rules.{rules}
 use Rattle.emit_plan.proofs.top.insert_at_the_top.Statement.{statement}
