@@ -26,8 +26,8 @@ use Rattle.numbers.proofs.Entering.{entries-long, entry_in, in-bucket}
 pub given : {bindings names text : List ℕ} → Sound bindings names text → GivenNames names text
 given {bindings} {names} {text} s k p l = good_names names text (fronted bindings names text s.front).named k p l
 
-pub is_name : (names : List ℕ) (k : ℕ) → 0 < k → k ≤ names_in names → is_name names k ≡ true
-is_name names k p l = rw (lt-ltb 0 k p, le-leb k (names_in names) l)
+pub is_name_lem : (names : List ℕ) (k : ℕ) → 0 < k → k ≤ names_in names → is_name names k ≡ true
+is_name_lem names k p l = rw (lt-ltb 0 k p, le-leb k (names_in names) l)
 
 -- a spelling is looked for in its bucket
 outside : (x : List ℕ) (buckets h : ℕ) → h ≡ hash_of x % buckets → (r : List ℕ) → in_bucket buckets h r ≡ false → is_text x r ≡ false

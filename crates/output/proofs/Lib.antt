@@ -4,5 +4,3 @@ pub mod Recording
 pub mod Loops
 pub mod Placing
 pub mod Runs
-pub mod Lending
-pub mod Holding

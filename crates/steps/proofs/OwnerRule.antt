@@ -105,16 +105,16 @@ module _ (N : Names) (bs : List Binding) (A : AllThis bs) (q : Spot) (U : Usual 
   InReads k = reads (captured_this bs) (own_one (new_kind q.ctx k a) (new_attr q.ctx k a) w c) (own_more (new_kind q.ctx k a) (new_attr q.ctx k a) w c) c' (top N bs q.slot k g X)
       ≡ reads (captured_this bs) (own_one (new_kind q.ctx k a) (new_attr q.ctx k a) w c) (own_more (new_kind q.ctx k a) (new_attr q.ctx k a) w c) c' X
 
-  in_static : InReads 23
+  in_static_lem : InReads 23
   unfolding InReads new_kind new_attr own_one own_more
-  in_static = top-reads N bs A q.slot 23 g U.on_time X c c'
+  in_static_lem = top-reads N bs A q.slot 23 g U.on_time X c c'
 
   in-body : InReads 19
   unfolding InReads new_kind new_attr own_one own_more
   in-body = top-reads N bs A q.slot 19 g U.on_time X w c'
 
   in_reads : (k : ℕ) → eqb k 0 ≡ false → InReads k
-  in_reads k z = at InReads 23 k in_static (λ e. at InReads 19 k in-body (λ f. unfold InReads top in rw (open_at q.slot k z e f)))
+  in_reads k z = at InReads 23 k in_static_lem (λ e. at InReads 19 k in-body (λ f. unfold InReads top in rw (open_at q.slot k z e f)))
 
 row_reads : (N : Names) (bs : List Binding) (A : AllThis bs) (h v : Home) (b : Bool) (q q' : Spot) (o w x c k a n : ℕ) (i s t : Rows) → Ready h v b q q' (node k a n i s) →
     reads (captured_this bs) w x c (dress q.slot (row_e N bs q o k a n i) t)

@@ -1,0 +1,16 @@
+-- `acts::act::on_ident` meets its contract. Assumes nothing.
+use mathlib.Core.Path.{◌≡◌, refl, ap, sym, ◌∙◌}
+use Rattle.acts.specs.View.{context_of, switches_of}
+use Rattle.acts.proofs.Branches.{decided_along, ident-yes, ident-no}
+use Rattle.passes.specs.View.{op_of}
+use borrow.Author.Rules.{rules}
+use Rattle.acts.proofs.act.on_ident.Goals as goal
+
+pub returns-then-only-arguments : goal.returns-then-only-arguments
+unfolding op_of
+returns-then-only-arguments c =
+    λ N w l o i p q. decided_along w _ _ _ c.args.q.context (ident-yes N w l (context_of c.args.q.context) c.args.q.slot o c.args.row.kind c.args.row.attr c.args.row.name i c.args.only c.args.arguments p q c.if-only-arguments.true) _ _ c.along.ensures (refl)
+
+pub returns : goal.returns
+returns c =
+    λ N w l o i p q. decided_along w _ _ _ c.args.q.context (ident-no N w l (context_of c.args.q.context) c.args.q.slot o c.args.row.kind c.args.row.attr c.args.row.name i c.args.only c.args.arguments p q c.if-only-arguments.false) _ _ c.along-2.ensures c.kept.ensures

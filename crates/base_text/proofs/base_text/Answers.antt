@@ -1,0 +1,14 @@
+-- `base_text::base_text` meets its contract. Assumes nothing.
+use borrow.Author.Rules.{rules}
+use mathlib.Core.Path.{sym, ◌∙◌}
+use Rattle.base_text.proofs.Telling.{told-front, told-spelled}
+use Rattle.base_text.proofs.base_text.Goals as goal
+
+pub returns-in-Refused : goal.returns-in-Refused
+returns-in-Refused c = told-front _ _ _ _ _ _ (sym c.front-tested.ensures ∙ c.tested-1.given.1)
+
+pub text_of-requires : goal.text_of-requires
+text_of-requires c = sym c.front-tested.ensures ∙ c.enum_told-1.given.1
+
+pub returns : goal.returns
+returns c = told-spelled _ _ _ _ _ _ _ (sym c.front-tested.ensures ∙ c.enum_told-1.given.1) c.text_of.ensures

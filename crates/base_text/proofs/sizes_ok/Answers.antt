@@ -1,0 +1,6 @@
+-- `base_text::sizes_ok` meets its contract. Assumes nothing.
+use borrow.Author.Rules.{rules}
+use Rattle.base_text.proofs.sizes_ok.Goals as goal
+
+pub returns : goal.returns
+returns c = rw c.names_fit-named.ensures

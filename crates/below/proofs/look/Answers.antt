@@ -1,0 +1,15 @@
+-- `below::look` meets its contract. Assumes nothing.
+use mathlib.Core.Path.{◌∙◌}
+use borrow.Author.Rules.{rules}
+use Rattle.below.proofs.Firsts.{is_super, is_access, is_call}
+use Rattle.below.proofs.look.Goals as goal
+
+pub returns : goal.returns
+returns c = record {
+  supered = is_super _ _ c.descend-l.ensures.first;
+  accessed = c.over_super-first.ensures ∙ is_access _ _ _ c.descend-l.ensures.first c.descend-l.ensures.second;
+  called = is_call _ _ _ c.descend-l.ensures.first c.descend-l.ensures.second;
+  deep = c.over_super-deep.ensures ∙ is_access _ _ _ c.descend-l.ensures.second c.descend-l.ensures.third;
+  named = c.descend-l.ensures.named;
+  small = c.descend-l.ensures.small;
+}

@@ -1,0 +1,12 @@
+-- `bindings::frame::Frame::accessor` meets its contract. Assumes nothing.
+use Rattle.bindings.specs.Store.{binds}
+use Rattle.bindings.proofs.Finding.{Looking, accessor-small, looking_start, looking-low, found_low, looking-next, looking-less, looking-done}
+use native.Mathlib.Omega.{arith}
+use borrow.Author.Rules.{rules}
+use Rattle.bindings.proofs.frame.Frame.accessor.Given as goal
+
+abbrev pub invariant-loop-b : goal.invariant-loop-b
+invariant-loop-b l = Looking l.names l.text l.cap l.u l.row l.x (binds l.made l.cap l.count) l.b l.found
+
+abbrev pub decreases-loop-b : goal.decreases-loop-b
+decreases-loop-b l = l.b

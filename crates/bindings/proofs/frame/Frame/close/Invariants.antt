@@ -1,0 +1,19 @@
+-- `bindings::frame::Frame::close` meets its contract. Assumes nothing.
+use Prim.Native.Nat.{ℕ, ◌+◌, ◌-◌, ◌<◌, ◌≤◌}
+use mathlib.Core.Path.{◌≡◌, refl, ap, sym, subst, ◌∙◌}
+use mathlib.Core.Bool.{cond}
+use mathlib.Core.List.{List, ◌++◌}
+use lib.Dec.{eqb}
+use lib.ListN.{length, get_or}
+use Rattle.bindings.specs.Search.{params_for}
+use Rattle.bindings.specs.Store.{binds}
+use Rattle.bindings.proofs.Closing.{Closing, closing_start, closing-room, closing-next, closing-less, closing-done}
+use native.Mathlib.Omega.{arith}
+use Rattle.bindings.specs.Filed.{behind}
+use Rattle.bindings.proofs.frame.Frame.close.Given as goal
+
+abbrev pub invariant-loop-b : goal.invariant-loop-b
+invariant-loop-b l = (Closing l.cap l.row l.initial.count l.initial.made l.made l.count l.b) × (behind l.row l.made ≡ behind l.row l.cap)
+
+abbrev pub decreases-loop-b : goal.decreases-loop-b
+decreases-loop-b l = cond (eqb l.b 0) 0 (l.initial.count + 1 - l.b)

@@ -1,0 +1,38 @@
+-- `candidates::first_fault` meets its contract. Assumes nothing.
+use borrow.Author.Rules.{rules}
+use native.Mathlib.Omega.{arith}
+use lib.ListN.{length}
+use Prim.Native.Nat.{◌-◌, ◌+◌}
+use mathlib.Core.Path.{◌≡◌}
+use Rattle.candidates.proofs.Writing.{few-records, Testing, testing_start, testing-next, testing-fault, testing-done, told-fault, told-passed}
+use Rattle.candidates.proofs.first_fault.Goals as goal
+
+pub overflow_cast-count : goal.overflow_cast-count
+overflow_cast-count c = let l = few-records _ _ _ c.requires in omega (arith, c.records_in-count.ensures)
+
+pub loop-b-init : goal.loop-b-init
+loop-b-init c = (testing_start, c.base_room-out.ensures)
+
+pub text_of-spelled-requires : goal.text_of-spelled-requires
+text_of-spelled-requires c = c.requires
+
+pub returns-in-Refused : goal.returns-in-Refused
+returns-in-Refused c =
+    testing-fault (turn c.before).loop.inv.0 _ (omega (arith, (turn c.before).before.before.records-in.ensures))
+    (told-fault _ _ _ _ (start (turn c.before)).pre _ (omega (arith, (turn c.before).loop.inv.1)) _ _ _ _ c.text_of-spelled.ensures _ c.spelled-1.given.1)
+
+pub overflow_add-b : goal.overflow_add-b
+overflow_add-b c = let l = few-records _ _ _ c.requires in omega (arith, c.records_in-count.ensures)
+
+pub loop-b-smaller : goal.loop-b-smaller
+loop-b-smaller c = omega (arith, c.records_in-count.ensures)
+
+pub loop-b-preserved : goal.loop-b-preserved
+loop-b-preserved c = (
+  testing-next (turn c.before).loop.inv.0 (omega (arith, (turn c.before).before.before.records-in.ensures))
+      (told-passed _ _ _ _ (start (turn c.before)).pre _ (omega (arith, (turn c.before).loop.inv.1)) _ _ _ _ c.text_of-spelled.ensures _ c.enum_told-1.given.1),
+  search rules,
+)
+
+pub returns : goal.returns
+returns c = testing-done c.loop-b.invariant.0 (omega (arith, c.records_in-count.ensures))

@@ -1,0 +1,7 @@
+-- `decimal::put_byte` meets its contract. Assumes nothing.
+use Rattle.decimal.proofs.Writing.{none}
+use borrow.Author.Rules.{rules}
+use Rattle.decimal.proofs.put_byte.Goals as goal
+
+pub returns : goal.returns
+returns c = none _ _ _ c.if-at-out.false

@@ -1,0 +1,19 @@
+-- `forest::depth::deep_in` meets its contract. Assumes nothing.
+use Prim.Native.Nat.{ℕ, ◌-◌, ◌+◌, ◌*◌, ◌/◌, ◌<◌, ◌≤◌}
+use mathlib.Core.List.{List}
+use mathlib.Core.Path.{◌≡◌, refl, sym, ap, subst, ◌∙◌}
+use borrow.Author.Tests.{lt-ltb, le-ltb}
+use lib.Dec.{ltb}
+use lib.ListN.{length, get_or}
+use Rattle.names.specs.Words.{words}
+use Rattle.forest.specs.Told.{told_by, to_all, deeper, depth_at, first_deep}
+use Rattle.names.proofs.Seeking.{Seek, seek-start, seek-next, seek_found, seek-none}
+use Rattle.forest.proofs.Telling.{told_fresh, told-on}
+use native.Mathlib.Omega.{arith}
+use Rattle.forest.proofs.depth.deep_in.Given as goal
+
+abbrev pub invariant-loop-i : goal.invariant-loop-i
+invariant-loop-i l = Seek (λ j. ltb l.most (depth_at (words l.s) j)) l.n 0 l.i × ((length l.depth ≡ length l.initial.depth) × ((j : ℕ) → get_or l.depth j 0 ≡ told_by (words l.s) deeper 0 l.i j))
+
+abbrev pub decreases-loop-i : goal.decreases-loop-i
+decreases-loop-i l = l.n - l.i

@@ -1,0 +1,17 @@
+-- `forest::depth::tell` meets its contract. Assumes nothing.
+use Prim.Native.Nat.{ℕ, ◌-◌, ◌+◌, ◌*◌, ◌/◌, ◌<◌, ◌≤◌}
+use mathlib.Core.Path.{◌≡◌, refl, sym, ap, subst, ◌∙◌}
+use borrow.Author.Tests.{ltb-true}
+use lib.ListN.{length, length-set}
+use Rattle.names.specs.Words.{words}
+use Rattle.forest.specs.Told.{to_all}
+use Rattle.names.proofs.Bools.{and_left}
+use Rattle.forest.proofs.Telling.{Telling, tell_start, tell-next, tell-last, tell_done}
+use native.Mathlib.Omega.{arith}
+use Rattle.forest.proofs.depth.tell.Given as goal
+
+abbrev pub invariant-loop-c : goal.invariant-loop-c
+invariant-loop-c l = (pos : ℕ) × Telling (words l.s) (to_all l.c0) l.initial.depth (length l.d) l.e l.d l.depth l.c pos
+
+abbrev pub decreases-loop-c : goal.decreases-loop-c
+decreases-loop-c l = l.initial.depth - l.c

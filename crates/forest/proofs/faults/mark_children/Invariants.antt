@@ -1,0 +1,21 @@
+-- `forest::faults::mark_children` meets its contract. Assumes nothing.
+use Prim.Native.Nat.{ℕ, ◌-◌, ◌+◌, ◌*◌, ◌/◌, ◌<◌, ◌≤◌}
+use mathlib.Core.Path.{◌≡◌, refl, sym, ap, subst, ◌∙◌}
+use borrow.Author.Tests.{ltb-true}
+use lib.ListN.{length, length-set}
+use Rattle.names.specs.Words.{words, end_at}
+use Rattle.grammar.specs.Grammar.{place_of}
+use Rattle.forest.specs.Told.{says}
+use Rattle.names.proofs.Bools.{and_left}
+use Rattle.grammar.proofs.Places.{later_all}
+use Rattle.forest.proofs.Telling.{Telling, tell_start, tell-next, tell-last, tell_done}
+use Rattle.forest.proofs.Visits.{said_good, said_bad}
+use borrow.Author.Rules.{rules}
+use native.Mathlib.Omega.{arith}
+use Rattle.forest.proofs.faults.mark_children.Given as goal
+
+abbrev pub invariant-loop-c : goal.invariant-loop-c
+invariant-loop-c l = Telling (words l.s) (says (words l.s) l.a l.c0 l.later) l.later (length l.k) l.e l.k l.marks l.c l.pos × ((l.pos ≤ l.c) × ((l.place ≡ place_of l.a l.c0 l.pos) × (l.place < 16)))
+
+abbrev pub decreases-loop-c : goal.decreases-loop-c
+decreases-loop-c l = l.later - l.c

@@ -1,0 +1,12 @@
+-- `form::take_piece` meets its contract. Assumes nothing.
+use Rattle.form.proofs.Ending.{Scans, scan-start, scan_byte, scan_done}
+use lib.ListN.{length}
+use Prim.Native.Nat.{◌-◌}
+use native.Mathlib.Omega.{arith}
+use Rattle.form.proofs.take_piece.Given as goal
+
+abbrev pub invariant-loop-i : goal.invariant-loop-i
+invariant-loop-i l = Scans l.piece l.initial.front l.initial.at l.front l.at l.i
+
+abbrev pub decreases-loop-i : goal.decreases-loop-i
+decreases-loop-i l = length l.initial.front - l.i

@@ -1,0 +1,6 @@
+-- `grammar::placed_attr` meets its contract. Assumes nothing.
+use borrow.Author.Rules.{rules}
+use Rattle.grammar.proofs.placed_attr.Goals as goal
+
+pub returns : goal.returns
+returns c = rw (c.declaration_ok-declared.ensures, c.constructor_ok-constructs.ensures)

@@ -1,0 +1,13 @@
+-- `insertion::accessor_declarators` meets its contract. Assumes nothing.
+use Prim.Native.Nat.{◌+◌, ◌-◌}
+use mathlib.Core.Bool.{cond}
+use lib.Dec.{eqb}
+use native.Mathlib.Omega.{arith}
+use Rattle.insertion.proofs.Declaring.{Going, going_start, going-low, going-room, going-value, going_next, going_less, going_done}
+use Rattle.insertion.proofs.accessor_declarators.Given as goal
+
+abbrev pub invariant-loop-b : goal.invariant-loop-b
+invariant-loop-b l = Going l.at l.initial.out l.made l.cap l.count l.frame l.out l.w l.b l.p
+
+abbrev pub decreases-loop-b : goal.decreases-loop-b
+decreases-loop-b l = cond (eqb l.b 0) 0 (l.count + 1 - l.b)

@@ -1,0 +1,18 @@
+-- `insertion::insert_variable_statement_at_the_top_of_statements` meets its contract. Assumes nothing.
+  statement,
+}
+use native.Mathlib.Omega.{arith}
+use mathlib.Core.Path.{sym, ◌∙◌}
+use Rattle.output.proofs.Writing.{nothing, named, size_as}
+use Rattle.insertion.proofs.Tops.{bare-none, bare-some}
+use borrow.Author.Rules.{rules}
+use Rattle.insertion.proofs.insert_variable_statement_at_the_top_of_statements.Goals as goal
+
+pub returns-then-is_bare : goal.returns-then-is_bare
+returns-then-is_bare c = named (bare-none c.requires.held c.args.guarded c.args.late (sym c.is_bare.ensures ∙ c.if-is_bare.true)) (nothing _ _)
+
+pub variable_statement-requires : goal.variable_statement-requires
+variable_statement-requires c = let z = size_as (bare-some c.requires.held c.args.guarded c.args.late (sym c.is_bare.ensures ∙ c.if-is_bare.false)) in (c.requires.held, omega arith)
+
+pub returns : goal.returns
+returns c = named (bare-some c.requires.held c.args.guarded c.args.late (sym c.is_bare.ensures ∙ c.if-is_bare.false)) c.variable_statement.ensures

@@ -1,0 +1,7 @@
+-- `names::words::put_pair` meets its contract. Assumes nothing.
+use Rattle.names.proofs.Storing.{two}
+use borrow.Author.Rules.{rules}
+use Rattle.names.proofs.words.put_pair.Goals as goal
+
+pub returns : goal.returns
+returns c = two _ _ _ _ _ _ c.put_word.ensures c.put_word-2.ensures

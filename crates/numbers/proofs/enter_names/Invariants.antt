@@ -1,0 +1,12 @@
+-- `numbers::enter_names` meets its contract. Assumes nothing.
+use native.Mathlib.Omega.{arith}
+use Prim.Native.Nat.{◌/◌, ◌-◌}
+use lib.ListN.{length}
+use Rattle.numbers.proofs.Making.{Entering, entering_start, entering_next, entering_done}
+use Rattle.numbers.proofs.enter_names.Given as goal
+
+abbrev pub invariant-loop-k : goal.invariant-loop-k
+invariant-loop-k l = Entering l.count l.initial.lasts l.lasts l.befores (length l.names) (length l.text) l.k
+
+abbrev pub decreases-loop-k : goal.decreases-loop-k
+decreases-loop-k l = length l.count / 8 - l.k

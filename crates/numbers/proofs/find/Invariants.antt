@@ -1,0 +1,18 @@
+-- `numbers::find` meets its contract. Assumes nothing.
+use borrow.Author.Rules.{rules}
+use native.Mathlib.Omega.{arith}
+use mathlib.Core.Path.{◌≡◌}
+use Prim.Native.Nat.{◌%◌}
+use lib.ListN.{length}
+use Rattle.numbers.proofs.Looking.{along_start, along-low, along-next, along-less, along-done}
+use Rattle.spelling.specs.Hash.{hash_of}
+use Rattle.buckets.proofs.Finding.{Finding}
+use Rattle.numbers.specs.Entries.{entries}
+use Rattle.numbers.specs.Tables.{is_text, in_bucket}
+use Rattle.numbers.proofs.find.Given as goal
+
+abbrev pub invariant-loop-e : goal.invariant-loop-e
+invariant-loop-e l = (l.h ≡ hash_of l.x % length l.lasts) × Finding (is_text l.x) (in_bucket (length l.lasts) l.h) (entries l.bindings l.names l.text l.numbers l.count) l.e l.found
+
+abbrev pub decreases-loop-e : goal.decreases-loop-e
+decreases-loop-e l = l.e

@@ -1,0 +1,16 @@
+-- `output::patch_end` meets its contract. Assumes nothing.
+use native.Mathlib.Omega.{arith}
+use mathlib.Core.Path.{sym}
+use Rattle.output.proofs.Writing.{end_in, end_out}
+use borrow.Author.Rules.{rules}
+use Rattle.output.proofs.patch_end.Goals as goal
+
+pub returns-then-b-out : goal.returns-then-b-out
+returns-then-b-out c =
+    let s = c.before in
+    cc (end_in s.args.out.now s.args.at s.args.end (omega arith))
+
+pub returns-else-b-out : goal.returns-else-b-out
+returns-else-b-out c =
+    let s = c.before in
+    sym (end_out s.args.out.now s.args.at s.args.end c.if-b-out.false)

@@ -1,0 +1,16 @@
+-- `output::put_record` meets its contract. Assumes nothing.
+use native.Mathlib.Omega.{arith}
+use mathlib.Core.Path.{refl, sym}
+use Rattle.output.proofs.Recording.{record_in, record_out}
+use borrow.Author.Rules.{rules}
+use Rattle.output.proofs.put_record.Goals as goal
+
+pub returns-then-first-out : goal.returns-then-first-out
+returns-then-first-out c =
+    let s = c.before in
+    record { next = refl; wrote = cc (record_in s.args.out.now s.args.at s.args.a s.args.b s.args.c (omega arith)) }
+
+pub returns-else-first-out : goal.returns-else-first-out
+returns-else-first-out c =
+    let s = c.before in
+    record { next = refl; wrote = sym (record_out s.args.out.now s.args.at s.args.a s.args.b s.args.c c.if-first-out.false) }

@@ -1,0 +1,8 @@
+-- `passes::anew` meets its contract. Assumes nothing.
+use borrow.Author.Rules.{rules}
+use Rattle.steps.specs.Fused.{anew}
+use Rattle.passes.proofs.anew.Goals as goal
+
+pub returns : goal.returns
+unfolding anew
+returns c = rw (← c.closes-closing.ensures)

@@ -1,0 +1,30 @@
+-- `plan::late::leaves` meets its contract. Assumes nothing.
+use mathlib.Core.Path.{refl, ◌∙◌}
+use native.Mathlib.Omega.{arith}
+use Rattle.names.specs.Words.{words, rows_in}
+use Rattle.steps.specs.Outcome.{names_of}
+use Rattle.acts.specs.View.{switches_of}
+use Rattle.plan.specs.Placing.{place_of}
+use Rattle.plan.proofs.Leaving.{Leaving, leaves-here, leaves-inside, leaves_none, here_as, no_function, not-down, children-say, children-range, children_fewer, later_fewer, leaving_next}
+use borrow.Author.Rules.{rules}
+use Prim.Native.Nat.{ℕ, ◌+◌, ◌-◌, ◌<◌}
+use Rattle.plan.proofs.late.+leaves.Given as goal
+
+-- abbrev μ-leaves : Measures 3 leaves-kinds.ps ℕ
+-- μ-leaves κs a = a.1.1.1.1.1.1.1.0 - a.1.1.1.1.1.1.0
+--
+-- abbrev leaves_at : ℕ → In 3 leaves-kinds.ps
+-- leaves_at t = and 3 leaves-kinds.ps (is 3 leaves-kinds.ps μ-leaves t) leaves.Pre
+--
+-- abbrev leaves-below : ℕ → In 3 leaves-kinds.ps
+-- leaves-below t = and 3 leaves-kinds.ps (falls 3 leaves-kinds.ps ◌<◌ μ-leaves t) leaves.Pre
+--
+-- abbrev leaves-claims : ℕ → leaves-lts.Claims
+-- leaves-claims t = (kind-at-reads.Asked, kind-at-reads.Learnt, end-at-reads.Asked, end-at-reads.Learnt, slot-reads.Asked, slot-reads.Learnt, row-act-reads.Asked, row-act-reads.Learnt, leaves-below t, leaves.Post)
+--
+
+abbrev pub invariant-loop-i : goal.invariant-loop-i
+invariant-loop-i l = Leaving (names_of l.names l.text) (switches_of l.switches) (words l.rows) (rows_in l.rows) (place_of l.initial.q) (place_of l.more) l.from l.end l.i (place_of l.q)
+
+abbrev pub decreases-loop-i : goal.decreases-loop-i
+decreases-loop-i l = l.end - l.i

@@ -1,0 +1,44 @@
+-- `plan::late::function_leaves` meets its contract. Assumes nothing.
+use mathlib.Core.Path.{ap, sym, subst, ◌∙◌}
+use Prim.Native.Nat.{◌+◌}
+use native.Mathlib.Omega.{arith}
+use Rattle.names.specs.Words.{words, rows_in}
+use Rattle.forest.specs.Nested.{Range}
+use Rattle.forest.proofs.Walking.{inner}
+use Rattle.steps.specs.Outcome.{names_of}
+use Rattle.steps.specs.Slots.{free}
+use Rattle.steps.specs.Acts.{Ctx}
+use Rattle.steps.specs.Context.{spot}
+use Rattle.acts.specs.View.{switches_of}
+use Rattle.plan.proofs.Frames.{params_below, body_below}
+use Rattle.plan.proofs.Leaving.{leaves-from}
+use borrow.Author.Rules.{rules}
+use Rattle.plan.proofs.late.function_leaves.Goals as goal
+
+pub end_at-stop-requires : goal.end_at-stop-requires
+end_at-stop-requires c = let b = c.requires.at.bytes in let r = c.requires.at.row in omega arith
+
+pub placed-requires : goal.placed-requires
+placed-requires c = record {
+  frames_below = params_below (switches_of c.args.switches) c.args.i c.args.attr _ c.in_params.ensures (let r = c.requires.at.row in let f = c.requires.at.few in omega arith) c.spot-spot.ensures.frames_below;
+  slot_bound = omega arith;
+}
+
+pub placed-requires-2 : goal.placed-requires-2
+placed-requires-2 c = record {
+  frames_below = body_below (switches_of c.args.switches) c.args.i c.args.attr _ c.in_body.ensures (let r = c.requires.at.row in let f = c.requires.at.few in omega arith) c.spot-spot.ensures.frames_below;
+  slot_bound = omega arith;
+}
+
+pub overflow_add-i : goal.overflow_add-i
+overflow_add-i c = let f = c.requires.at.few in let r = c.requires.at.row in omega arith
+
+pub leaves-requires : goal.leaves-requires
+leaves-requires c = record {
+  ranged = record { bytes = c.requires.at.bytes; few = c.requires.at.few; nested = c.requires.at.nested; range = subst (Range (words c.args.rows.now) (rows_in c.args.rows.now) (c.args.i + 1)) (sym c.end_at-stop.ensures.0) (inner (words c.args.rows.now) (rows_in c.args.rows.now) c.requires.at.nested c.args.i c.requires.at.row) };
+  given_names = c.requires.given_names;
+}
+
+pub returns : goal.returns
+returns c =
+    leaves-from (names_of c.args.names.now c.args.text.now) (switches_of c.args.switches) (words c.args.rows.now) c.args.i c.args.attr c.spot-spot.ensures.result_value (c.placed.ensures ∙ ap (λ (x : Ctx). spot x free) c.in_params.ensures) (c.placed-2.ensures ∙ ap (λ (x : Ctx). spot x free) c.in_body.ensures) c.end_at-stop.ensures.0 c.leaves.ensures

@@ -1,0 +1,20 @@
+-- `plan::often::arrow_act` meets its contract. Assumes nothing.
+use mathlib.Core.List.{[]}
+use Rattle.forest.specs.Forest.{Rows.none}
+use Rattle.steps.specs.Outcome.{names_of}
+use Rattle.acts.specs.View.{switches_of, context_of}
+use Rattle.plan.proofs.Frames.{placeable, handed}
+use Rattle.plan.proofs.Taking.{arrow-does, takes_at}
+use borrow.Author.Rules.{rules}
+use Rattle.plan.proofs.often.arrow_act.Goals as goal
+
+pub hand_on-requires : goal.hand_on-requires
+hand_on-requires c =
+    placeable (names_of [] []) (switches_of c.args.switches) c.args.late (context_of c.spot-spot.result.context) c.spot-spot.result.slot c.args.at c.args.row.kind c.args.row.attr c.args.row.name none
+    (arrow-does (names_of [] []) (switches_of c.args.switches) c.args.late (context_of c.spot-spot.result.context) c.spot-spot.result.slot c.args.at c.args.row.kind c.args.row.attr c.args.row.name none c.requires.0 (c.on_arrow.ensures (names_of [] []) c.args.late c.args.at none)) c.requires.1 c.spot-spot.ensures.frames_below
+
+pub returns : goal.returns
+returns c =
+    λ N i. takes_at N (switches_of c.args.switches) c.args.late c.args.at c.args.row.kind c.args.row.attr c.args.row.name i c.spot-spot.ensures.result_value
+    (handed N (switches_of c.args.switches) c.args.late (context_of c.spot-spot.result.context) c.spot-spot.result.slot c.args.at c.args.row.kind c.args.row.attr c.args.row.name i
+    (arrow-does N (switches_of c.args.switches) c.args.late (context_of c.spot-spot.result.context) c.spot-spot.result.slot c.args.at c.args.row.kind c.args.row.attr c.args.row.name i c.requires.0 (c.on_arrow.ensures N c.args.late c.args.at i)) c.hand_on.ensures)

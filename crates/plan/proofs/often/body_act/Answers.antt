@@ -1,0 +1,13 @@
+-- `plan::often::body_act` meets its contract. Assumes nothing.
+use mathlib.Core.Path.{refl}
+use Rattle.steps.specs.Slots.{free}
+use Rattle.passes.specs.View.{op_of}
+use Rattle.plan.specs.Placing.{place_of}
+use Rattle.plan.proofs.Taking.{takes_along, body-row}
+use borrow.Author.Rules.{rules}
+use Rattle.plan.proofs.often.body_act.Goals as goal
+
+pub returns : goal.returns
+unfolding op_of
+returns c =
+    λ N w l o i. takes_along w (place_of c.args.q).ctx _ _ free free (body-row N w l (place_of c.args.q).ctx (place_of c.args.q).slot o c.args.row.kind c.args.row.attr c.args.row.name i c.requires) _ refl c.inside-inside.ensures c.inside-inside.ensures

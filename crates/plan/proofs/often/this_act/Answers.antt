@@ -1,0 +1,20 @@
+-- `plan::often::this_act` meets its contract. Assumes nothing.
+use mathlib.Core.Path.{refl, ap, sym, ◌∙◌}
+use Prim.Native.Nat.{ℕ}
+use Rattle.steps.specs.Slots.{free}
+use Rattle.steps.specs.Acts.{Op, Op.name}
+use Rattle.passes.specs.View.{op_of}
+use Rattle.plan.specs.Placing.{place_of}
+use Rattle.plan.proofs.Taking.{takes_along, this_name, this-row}
+use borrow.Author.Rules.{rules}
+use Rattle.plan.proofs.often.this_act.Goals as goal
+
+pub returns-then-takes_this : goal.returns-then-takes_this
+unfolding op_of
+returns-then-takes_this c =
+    λ N w l o i. takes_along w (place_of c.args.q).ctx _ _ free free (this_name N w l (place_of c.args.q).ctx (place_of c.args.q).slot o c.args.row.kind c.args.row.attr c.args.row.name i c.requires (sym c.takes_this.ensures ∙ c.if-takes_this.true)) _ (ap (λ (f : ℕ). Op.name 1 f) c.this_at.ensures.value) c.inside-inside.ensures c.inside-inside.ensures
+
+pub returns : goal.returns
+unfolding op_of
+returns c =
+    λ N w l o i. takes_along w (place_of c.args.q).ctx _ _ free free (this-row N w l (place_of c.args.q).ctx (place_of c.args.q).slot o c.args.row.kind c.args.row.attr c.args.row.name i c.requires (sym c.takes_this.ensures ∙ c.if-takes_this.false)) _ refl c.inside-inside.ensures c.inside-inside.ensures

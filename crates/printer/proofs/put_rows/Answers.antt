@@ -1,0 +1,30 @@
+-- `printer::put_rows` meets its contract. Assumes nothing.
+use mathlib.Core.Path.{◌≡◌, refl, ◌∙◌}
+use Prim.Native.Nat.{◌+◌, ◌-◌, ◌*◌, ◌≤◌}
+use native.Mathlib.Omega.{arith}
+use lib.ListN.{length, take}
+use Rattle.names.specs.Words.{words}
+use Rattle.decimal.specs.Decimal.{Wrote}
+use Rattle.printer.specs.Print.{row_lines}
+use Rattle.printer.proofs.Printing.{no_rows, row_more, all_rows, words_long}
+use Rattle.printer.proofs.put_rows.Goals as goal
+
+pub loop-i-init : goal.loop-i-init
+loop-i-init c = (omega arith, omega arith, refl, no_rows _ (words c.args.rows.now) _)
+
+pub put_row-to-requires : goal.put_row-to-requires
+put_row-to-requires c = (omega arith, omega arith)
+
+pub loop-i-preserved : goal.loop-i-preserved
+loop-i-preserved c =
+    let w = c.put_row-to.ensures in
+    let z = words_long c.args.rows.now in
+    (omega arith, omega (arith, w.1), c.put_row-to.auto.0 ∙ c.loop-i.invariant.2, row_more _ _ _ (words c.args.rows.now) _ c.loop-i.i _ _ (omega arith) c.loop-i.invariant.3 w.0)
+
+pub shape_of-out : goal.shape_of-out
+shape_of-out c = c.loop-i.invariant.2
+
+pub returns : goal.returns
+returns c =
+    let z = words_long c.args.rows.now in
+    (all_rows _ _ _ _ c.loop-i.i _ (omega arith) (omega arith) c.loop-i.invariant.3, omega (arith, c.loop-i.invariant.1))

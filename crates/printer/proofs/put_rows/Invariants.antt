@@ -1,0 +1,17 @@
+-- `printer::put_rows` meets its contract. Assumes nothing.
+use mathlib.Core.Path.{◌≡◌, refl, ◌∙◌}
+use Prim.Native.Nat.{◌+◌, ◌-◌, ◌*◌, ◌≤◌}
+use native.Mathlib.Omega.{arith}
+use lib.ListN.{length, take}
+use Rattle.names.specs.Words.{words}
+use Rattle.decimal.specs.Decimal.{Wrote}
+use Rattle.printer.specs.Print.{row_lines}
+use Rattle.printer.proofs.Printing.{no_rows, row_more, all_rows, words_long}
+use Rattle.printer.proofs.put_rows.Given as goal
+
+abbrev pub invariant-loop-i : goal.invariant-loop-i
+invariant-loop-i l =
+    (l.i ≤ l.initial.out) × (l.to ≤ l.rows + 44 * l.i) × (length l.out ≡ length l.at) × (Wrote l.at l.rows (row_lines (take (4 * l.i) (words l.n))) l.to l.out)
+
+abbrev pub decreases-loop-i : goal.decreases-loop-i
+decreases-loop-i l = l.initial.out - l.i

@@ -1,0 +1,18 @@
+-- `refusals::standing::tell` meets its contract. Assumes nothing.
+use mathlib.Core.Path.{◌≡◌, refl, ◌∙◌}
+use Prim.Native.Nat.{ℕ, ◌-◌, ◌+◌, ◌<◌}
+use lib.ListN.{length, length-set}
+use native.Mathlib.Omega.{arith}
+use borrow.Author.Tests.{ltb-true}
+use Rattle.forest.proofs.Telling.{Telling, tell_start, tell-next, tell-last, tell_done}
+use Rattle.names.proofs.Bools.{and_left}
+use Rattle.names.specs.Words.{words}
+use Rattle.refusals.specs.Standing.{first_then}
+use Rattle.refusals.proofs.Stands.{then-more}
+use Rattle.refusals.proofs.standing.tell.Given as goal
+
+abbrev pub invariant-loop-c : goal.invariant-loop-c
+invariant-loop-c l = (pos : ℕ) × (Telling (words l.rows) (first_then l.more l.c0) l.initial.told (length l.one) l.e l.one l.told l.c pos × (first_then l.more l.c0 pos l.c ≡ l.value))
+
+abbrev pub decreases-loop-c : goal.decreases-loop-c
+decreases-loop-c l = l.initial.told - l.c

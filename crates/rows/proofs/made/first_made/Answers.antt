@@ -1,0 +1,27 @@
+-- `rows::made::first_made` meets its contract. Assumes nothing.
+use Prim.Native.Nat.{ℕ, ◌-◌, ◌+◌, ◌*◌, ◌/◌, ◌<◌, ◌≤◌}
+use mathlib.Core.Path.{◌≡◌, refl, sym, ap, subst, ◌∙◌}
+use Rattle.names.specs.Words.{words, kind_at, attr_at}
+use Rattle.grammar.specs.Grammar.{made_row}
+use Rattle.rows.specs.Refusals.{first_made}
+use Rattle.names.proofs.Seeking.{Seek, seek-start, seek-next, seek_found, seek-none}
+use Rattle.forest.proofs.Visits.{made-same}
+use borrow.Author.Rules.{rules}
+use native.Mathlib.Omega.{arith}
+use Rattle.rows.proofs.made.first_made.Goals as goal
+
+pub loop-i-init : goal.loop-i-init
+loop-i-init c = seek-start _ _ _
+
+pub returns-then-made_row : goal.returns-then-made_row
+unfolding first_made
+returns-then-made_row c =
+    let made = c.before in let at = made.before.before.before.before in seek_found _ _ _ _ at.loop.invariant (omega arith) (made-same (words at.before.before.args.s.now) at.loop.i _ _ _ made.before.before.cell.ensures.0 made.before.cell2.ensures.0 made.Made-row.ensures ∙ c.if-made_row.true)
+
+pub loop-i-preserved : goal.loop-i-preserved
+loop-i-preserved c =
+    let made = c.before in let at = made.before.before.before.before in seek-next _ _ _ _ at.loop.invariant (omega arith) (made-same (words at.before.before.args.s.now) at.loop.i _ _ _ made.before.before.cell.ensures.0 made.before.cell2.ensures.0 made.Made-row.ensures ∙ c.if-made_row.false)
+
+pub returns : goal.returns
+unfolding first_made
+returns c = seek-none _ _ _ _ c.loop-i.invariant (omega arith)

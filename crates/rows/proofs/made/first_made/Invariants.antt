@@ -1,0 +1,17 @@
+-- `rows::made::first_made` meets its contract. Assumes nothing.
+use Prim.Native.Nat.{ℕ, ◌-◌, ◌+◌, ◌*◌, ◌/◌, ◌<◌, ◌≤◌}
+use mathlib.Core.Path.{◌≡◌, refl, sym, ap, subst, ◌∙◌}
+use Rattle.names.specs.Words.{words, kind_at, attr_at}
+use Rattle.grammar.specs.Grammar.{made_row}
+use Rattle.rows.specs.Refusals.{first_made}
+use Rattle.names.proofs.Seeking.{Seek, seek-start, seek-next, seek_found, seek-none}
+use Rattle.forest.proofs.Visits.{made-same}
+use borrow.Author.Rules.{rules}
+use native.Mathlib.Omega.{arith}
+use Rattle.rows.proofs.made.first_made.Given as goal
+
+abbrev pub invariant-loop-i : goal.invariant-loop-i
+invariant-loop-i l = Seek (λ j. made_row (kind_at (words l.s) j) (attr_at (words l.s) j)) l.n 0 l.i
+
+abbrev pub decreases-loop-i : goal.decreases-loop-i
+decreases-loop-i l = l.n - l.i

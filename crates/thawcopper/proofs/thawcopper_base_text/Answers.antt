@@ -1,0 +1,20 @@
+-- `thawcopper::thawcopper_base_text` meets its contract. Assumes nothing.
+use mathlib.Core.Path.{ap, ◌∙◌}
+use mathlib.Core.List.{List, ◌++◌}
+use lib.ListN.{take, drop}
+use borrow.Author.Rules.{rules}
+use Rattle.base_text.specs.Refusals.{answer_number, answer_place, count_of, base_text}
+use Rattle.base_text.specs.declared.Spelling.{Spelling}
+use Rattle.thawcopper.proofs.thawcopper_base_text.Goals as goal
+
+pub returns : goal.returns
+returns c =
+    let a = c.args in
+    let told = c.base_text.ensures in
+    let said = c.numbers_of.ensures in
+    record {
+      refused = said.0 ∙ ap answer_number told.right;
+      placed = said.1 ∙ ap answer_place told.right;
+      counted = said.2 ∙ ap count_of told.right;
+      written = told.bytes ∙ ap (λ (s : Spelling). take (count_of s) (base_text a.number a.bindings.now a.names.now a.text.now) ++ drop (count_of s) a.out.now) told.right;
+    }

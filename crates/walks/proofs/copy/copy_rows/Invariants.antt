@@ -1,0 +1,11 @@
+-- `walks::copy::copy_rows` meets its contract. Assumes nothing.
+use Prim.Native.Nat.{◌-◌}
+use native.Mathlib.Omega.{arith}
+use Rattle.walks.proofs.Copying.{Copies, copies_start, copies-next, copies-end}
+use Rattle.walks.proofs.copy.copy_rows.Given as goal
+
+abbrev pub invariant-loop-i : goal.invariant-loop-i
+invariant-loop-i l = Copies l.rows l.n l.out l.i
+
+abbrev pub decreases-loop-i : goal.decreases-loop-i
+decreases-loop-i l = l.initial.out - l.i
