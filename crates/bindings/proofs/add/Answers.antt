@@ -23,13 +23,10 @@ chain-requires c = let all = let R = c.requires.room in
 
 pub returns : goal.returns
 returns c = record {
-      kept = subst (λ (l : List ℕ). Kept l c.args.cap (binds c.args.made.now c.args.cap c.args.count ++ (bind c.args.u c.args.x c.args.f ∷ [])) (c.args.count + 1))
+  kept = subst (λ (l : List ℕ). Kept l c.args.cap (binds c.args.made.now c.args.cap c.args.count ++ (bind c.args.u c.args.x c.args.f ∷ [])) (c.args.count + 1))
       (sym (c.chain.ensures ∙ ap (λ (l : List ℕ). chained l c.args.cap c.args.param c.args.f (c.args.count + 1)) c.push.ensures)) (added c.args.made.now c.args.cap c.args.count c.args.u c.args.x c.args.f c.requires.room.store c.requires.room.more c.requires.room.row_low c.args.param c.requires.u_value);
-      value = (
-    refl,
-    ap (behind c.args.cap) (c.chain.ensures ∙ ap (λ (l : List ℕ). chained l c.args.cap c.args.param c.args.f (c.args.count + 1)) c.push.ensures)
-        ∙ chained-behind (pushed c.args.made.now c.args.cap (c.args.count + 1) c.args.u c.args.x c.args.f) c.args.cap c.args.param c.args.f (c.args.count + 1) c.requires.room.row_low (add_low c.args.made.now c.args.cap c.args.count c.args.u c.args.x c.args.f c.requires.room.store c.requires.room.more c.requires.room.row_low c.args.param c.requires.u_value)
-        ∙ pushed-behind c.args.made.now c.args.cap (c.args.count + 1) c.args.u c.args.x c.args.f c.requires.room.more,
-  );
-      made_unchanged = ;
-    }
+  value = refl;
+  made_unchanged = ap (behind c.args.cap) (c.chain.ensures ∙ ap (λ (l : List ℕ). chained l c.args.cap c.args.param c.args.f (c.args.count + 1)) c.push.ensures)
+      ∙ chained-behind (pushed c.args.made.now c.args.cap (c.args.count + 1) c.args.u c.args.x c.args.f) c.args.cap c.args.param c.args.f (c.args.count + 1) c.requires.room.row_low (add_low c.args.made.now c.args.cap c.args.count c.args.u c.args.x c.args.f c.requires.room.store c.requires.room.more c.requires.room.row_low c.args.param c.requires.u_value)
+      ∙ pushed-behind c.args.made.now c.args.cap (c.args.count + 1) c.args.u c.args.x c.args.f c.requires.room.more;
+}

@@ -1,6 +1,4 @@
 -- `insertion::insert_variable_statement_at_the_top_of_statements` meets its contract. Assumes nothing.
-  statement,
-}
 use native.Mathlib.Omega.{arith}
 use mathlib.Core.Path.{sym, ◌∙◌}
 use Rattle.output.proofs.Writing.{nothing, named, size_as}

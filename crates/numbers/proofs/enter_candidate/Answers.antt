@@ -29,12 +29,9 @@ pub slice_bounds-enter-end : goal.slice_bounds-enter-end
 slice_bounds-enter-end c = front_long c.put_candidate-end.ensures.0 c.name_room-name.ensures c.put_candidate-end.ensures.1
 
 pub returns : goal.returns
-returns c = let all = (
-  ((put c).put-candidate.ensures.0.next ∙ (omega arith), (put c).put-candidate.ensures.1),
-  entered_as
+returns c = record {
+  value = ((put c).put-candidate.ensures.0.next ∙ (omega arith), (put c).put-candidate.ensures.1);
+  entered = entered_as
       (ap (λ (l : List ℕ). hash_of l % length (start (put c).before).args.lasts.now) (at_front (put c).put-candidate.ensures.0 (put c).before.before.name-room.ensures (put c).put-candidate.ensures.1))
-      c.enter.ensures,
-) in record {
-  value = all.0;
-  entered = all.1;
+      c.enter.ensures;
 }

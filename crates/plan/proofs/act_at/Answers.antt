@@ -5,14 +5,11 @@ use borrow.Author.Rules.{rules}
 use Rattle.plan.proofs.act_at.Goals as goal
 
 pub returns : goal.returns
-returns c = let all = (
-  record {
+returns c = record {
+  takes = record {
     becomes = ap op_of c.part_by_part.ensures ∙ c.row_act-act.ensures.takes.becomes;
     first = c.row_act-act.ensures.takes.first;
     later = c.row_act-act.ensures.takes.later;
-  },
-  c.row_act-act.ensures.small,
-) in record {
-  takes = all.0;
-  small = all.1;
+  };
+  small = c.row_act-act.ensures.small;
 }

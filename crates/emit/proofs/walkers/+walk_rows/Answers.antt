@@ -1,8 +1,4 @@
 -- The walkers of `emit::walkers` meet their contracts. Assumes nothing.
-  statement,
-}
-  close,
-}
 use mathlib.Core.Path.{ap, sym, subst, ◌∙◌}
 use native.Mathlib.Omega.{arith}
 use Rattle.forest.specs.Forest.{Rows, Rows.none, Rows.node, size}
@@ -25,7 +21,6 @@ use Rattle.emit.proofs.Dressing.{body-room, inner_room, dressed_written}
 use Rattle.emit.proofs.Lists.{Turning, row_room, row-fewer, turn_on, turn-less, turned}
 use borrow.Author.Rules.{rules}
 use Prim.Native.Nat.{ℕ, ◌+◌, ◌*◌, ◌-◌, ◌<◌}
-use Rattle.emit.proofs.walkers.+walk_rows.{
 use Rattle.emit.proofs.walkers.+walk_rows.Goals as goal
 
 pub around-overflow_add-at : goal.around-overflow_add-at
@@ -72,9 +67,9 @@ expression-returns t c =
 
 pub function-insert_at_the_top-top-requires : goal.function-insert_at_the_top-top-requires
 function-insert_at_the_top-top-requires t c = record {
-      held = record { store = c.requires.inner_pre.holds.store; frame_low = subst (λ (f : ℕ). f < c.args.walk.cap) (sym c.this_at-frame.ensures.value) c.requires.inner_pre.later.this; cap_low = c.requires.inner_pre.holds.cap_low };
-      frame_bound = let h0 = top-size c.args.rows.now c.args.names.now c.args.text.now c.args.made.now c.args.walk c.args.slot c.args.kind c.args.inner c.requires.inner_pre.holds.store c.requires.inner_pre.later.this in let h1 = c.requires.inner_bound in let h2 = c.append-first.ensures.next in let h_t = ap (λ (f : ℕ). size (top_rows c.args.made.now c.args.walk c.args.slot c.args.kind f)) c.this_at-frame.ensures.value in omega arith;
-    }
+  held = record { store = c.requires.inner_pre.holds.store; frame_low = subst (λ (f : ℕ). f < c.args.walk.cap) (sym c.this_at-frame.ensures.value) c.requires.inner_pre.later.this; cap_low = c.requires.inner_pre.holds.cap_low };
+  frame_bound = let h0 = top-size c.args.rows.now c.args.names.now c.args.text.now c.args.made.now c.args.walk c.args.slot c.args.kind c.args.inner c.requires.inner_pre.holds.store c.requires.inner_pre.later.this in let h1 = c.requires.inner_bound in let h2 = c.append-first.ensures.next in let h_t = ap (λ (f : ℕ). size (top_rows c.args.made.now c.args.walk c.args.slot c.args.kind f)) c.this_at-frame.ensures.value in omega arith;
+}
 
 pub function-list-next-requires : goal.function-list-next-requires
 function-list-next-requires t c =
@@ -132,11 +127,11 @@ list-around-next-requires t c =
 
 pub list-plan_at-plan-requires : goal.list-plan_at-plan-requires
 list-plan_at-plan-requires t c = record {
-      at = record { bytes = c.requires.inner_pre.range.bytes; few = c.requires.inner_pre.range.few; nested = c.requires.inner_pre.range.nested; row = let h = c.loop-i.invariant.range.within in let l = c.loop-i-test.true in omega arith };
-      given_names = c.requires.inner_pre.named;
-      holds = c.requires.inner_pre.holds;
-      frames_below = (c.loop-i.invariant.low, c.requires.inner_pre.bound);
-    }
+  at = record { bytes = c.requires.inner_pre.range.bytes; few = c.requires.inner_pre.range.few; nested = c.requires.inner_pre.range.nested; row = let h = c.loop-i.invariant.range.within in let l = c.loop-i-test.true in omega arith };
+  given_names = c.requires.inner_pre.named;
+  holds = c.requires.inner_pre.holds;
+  frames_below = (c.loop-i.invariant.low, c.requires.inner_pre.bound);
+}
 
 pub list-statement-next-requires : goal.list-statement-next-requires
 list-statement-next-requires t c =
@@ -237,9 +232,9 @@ transform_call_expression_for_super-patch_end-requires t c =
 
 pub transform_call_expression_for_super-get_this_identifier-requires : goal.transform_call_expression_for_super-get_this_identifier-requires
 transform_call_expression_for_super-get_this_identifier-requires t c = record {
-      made_len = (c.requires.inner_pre.holds.store.long, (c.requires.inner_pre.holds.cap_low, subst (λ (s : Spot). s.ctx.this_at < c.args.walk.cap) (sym c.spot-spot.ensures.result_value) c.requires.q_bound.0));
-      at_bound = let h0 = c.requires.inner_bound in let h1 = c.append-call.ensures.next in let h2 = c.transform_member_expression_for_super-this.ensures.next in let h3 = call_row_size (number (names_of c.args.names.now c.args.text.now) (list_of c.args.made.now c.args.walk) c.args.usage c.args.frame c.args.property) (inside c.args.rows.now c.args.names.now c.args.text.now c.args.made.now c.args.walk c.args.inner) in omega arith;
-    }
+  made_len = (c.requires.inner_pre.holds.store.long, (c.requires.inner_pre.holds.cap_low, subst (λ (s : Spot). s.ctx.this_at < c.args.walk.cap) (sym c.spot-spot.ensures.result_value) c.requires.q_bound.0));
+  at_bound = let h0 = c.requires.inner_bound in let h1 = c.append-call.ensures.next in let h2 = c.transform_member_expression_for_super-this.ensures.next in let h3 = call_row_size (number (names_of c.args.names.now c.args.text.now) (list_of c.args.made.now c.args.walk) c.args.usage c.args.frame c.args.property) (inside c.args.rows.now c.args.names.now c.args.text.now c.args.made.now c.args.walk c.args.inner) in omega arith;
+}
 
 pub transform_call_expression_for_super-returns : goal.transform_call_expression_for_super-returns
 transform_call_expression_for_super-returns t c =
@@ -247,12 +242,12 @@ transform_call_expression_for_super-returns t c =
 
 pub transform_member_expression_for_super-accessor_identifier-first-requires : goal.transform_member_expression_for_super-accessor_identifier-first-requires
 transform_member_expression_for_super-accessor_identifier-first-requires t c = record {
-      store = (c.requires.inner_pre.holds.store, (c.requires.frame_lt_cap.0, c.requires.inner_pre.holds.cap_low));
-      given_names = c.requires.inner_pre.named;
-      usage_value = c.requires.frame_lt_cap.1;
-      at_bound = let h0 = c.requires.inner_bound in let h1 = c.append-callee.ensures.next in omega arith;
-      filed = c.requires.inner_pre.holds.filed;
-    }
+  store = (c.requires.inner_pre.holds.store, (c.requires.frame_lt_cap.0, c.requires.inner_pre.holds.cap_low));
+  given_names = c.requires.inner_pre.named;
+  usage_value = c.requires.frame_lt_cap.1;
+  at_bound = let h0 = c.requires.inner_bound in let h1 = c.append-callee.ensures.next in omega arith;
+  filed = c.requires.inner_pre.holds.filed;
+}
 
 pub transform_member_expression_for_super-list-next-requires : goal.transform_member_expression_for_super-list-next-requires
 transform_member_expression_for_super-list-next-requires t c =
@@ -287,9 +282,9 @@ undressed-list-requires t c =
 pub undressed-captured_identifier-requires : goal.undressed-captured_identifier-requires
 unfolding op_of
 undressed-captured_identifier-requires t c = record {
-      made_len = (c.requires.row_pre.inner.holds.store.long, (c.requires.row_pre.inner.holds.cap_low, (subst (λ (o : Becomes). OpLow c.args.walk.cap (op_of o)) c.op-in-Name-1.given.1 c.requires.row_pre.low).1.1));
-      at_bound = let h0 = name-size c.args.rows.now c.args.names.now c.args.text.now c.args.made.now c.args.walk c.args.plan c.requires.row_pre.formed c.if-plan.false c.requires.first_value _ _ (ap op_of c.op-in-Name-1.given.1) in let h1 = c.requires.none_bound in omega arith;
-    }
+  made_len = (c.requires.row_pre.inner.holds.store.long, (c.requires.row_pre.inner.holds.cap_low, (subst (λ (o : Becomes). OpLow c.args.walk.cap (op_of o)) c.op-in-Name-1.given.1 c.requires.row_pre.low).1.1));
+  at_bound = let h0 = name-size c.args.rows.now c.args.names.now c.args.text.now c.args.made.now c.args.walk c.args.plan c.requires.row_pre.formed c.if-plan.false c.requires.first_value _ _ (ap op_of c.op-in-Name-1.given.1) in let h1 = c.requires.none_bound in omega arith;
+}
 
 pub undressed-transform_call_expression_for_super-requires : goal.undressed-transform_call_expression_for_super-requires
 unfolding op_of
