@@ -5,10 +5,10 @@ use Rattle.base_text.proofs.Telling.{told-front, told-spelled}
 use Rattle.base_text.proofs.base_text.Goals as goal
 
 pub returns-in-Refused : goal.returns-in-Refused
-returns-in-Refused c = told-front _ _ _ _ _ _ (sym c.front-tested.ensures ∙ c.tested-1.given.1)
+returns-in-Refused c = told-front _ _ _ _ _ _ (sym c.front-tested.ensures ∙ c.in-Refused.is)
 
 pub text_of-requires : goal.text_of-requires
-text_of-requires c = sym c.front-tested.ensures ∙ c.enum_told-1.given.1
+text_of-requires c = sym c.front-tested.ensures ∙ c.in_default.is
 
 pub returns : goal.returns
-returns c = told-spelled _ _ _ _ _ _ _ (sym c.front-tested.ensures ∙ c.enum_told-1.given.1) c.text_of.ensures
+returns c = told-spelled _ _ _ _ _ _ _ (sym c.front-tested.ensures ∙ c.in_default.is) c.text_of.ensures

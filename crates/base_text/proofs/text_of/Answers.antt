@@ -9,27 +9,28 @@ use Rattle.names.specs.Words.{names_in}
 use Rattle.base_text.specs.Bindings.{property_number, binding_ok}
 use Rattle.base_text.proofs.Checking.{Fronted, fronted, Bound, bound, property-ok}
 use Rattle.base_text.proofs.Telling.{told_binding, told_text}
+use Rattle.std.proofs.lemmas.Bool.{not-true}
 use Rattle.base_text.proofs.text_of.Goals as goal
 
-tested : (c : tie.Start) → Fronted c.args.bindings.now c.args.names.now c.args.text.now
+tested : (c : goal.Start) → Fronted c.args.bindings.now c.args.names.now c.args.text.now
 tested c = fronted _ _ _ c.requires
 
 -- the entry, seen from past the test of the record
 
-abbrev start : tie.Else1 → tie.Start
-start c = c.before.before.before.before.before.before
+abbrev start : goal.Else-not-binding_ok → goal.Start
+start c = c.before
 
-ok : (c : tie.Else1) → binding_ok (start c).args.number (start c).args.bindings.now (names_in (start c).args.names.now) ≡ true
-ok c = sym c.before.binding-ok.ensures ∙ not-false _ c.if1.false
+ok : (c : goal.Else-not-binding_ok) → binding_ok (start c).args.number (start c).args.bindings.now (names_in (start c).args.names.now) ≡ true
+ok c = sym c.binding_ok.ensures ∙ not-false _ (not-false _ c.if-not-binding_ok.false)
 
-sound : (c : tie.Else1) → Bound (start c).args.number (start c).args.bindings.now (names_in (start c).args.names.now)
+sound : (c : goal.Else-not-binding_ok) → Bound (start c).args.number (start c).args.bindings.now (names_in (start c).args.names.now)
 sound c = bound _ _ _ (ok c)
 
 pub binding_ok-requires : goal.binding_ok-requires
 binding_ok-requires c = (tested c.before).sizes.records
 
 pub returns-then-not-binding_ok : goal.returns-then-not-binding_ok
-returns-then-not-binding_ok c = told_binding _ _ _ _ _ (sym c.binding_ok.ensures ∙ not-true _ c.if-not-binding_ok.true)
+returns-then-not-binding_ok c = told_binding _ _ _ _ _ (sym c.binding_ok.ensures ∙ not-true _ (not-true _ c.if-not-binding_ok.true))
 
 pub role_of-role-requires : goal.role_of-role-requires
 role_of-role-requires c = let b = sound c in let t = tested c.before in omega arith

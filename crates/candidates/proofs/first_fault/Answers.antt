@@ -19,7 +19,7 @@ text_of-spelled-requires c = c.requires
 pub returns-in-Refused : goal.returns-in-Refused
 returns-in-Refused c =
     testing-fault (turn c.before).loop.inv.0 _ (omega (arith, (turn c.before).before.before.records-in.ensures))
-    (told-fault _ _ _ _ (start (turn c.before)).pre _ (omega (arith, (turn c.before).loop.inv.1)) _ _ _ _ c.text_of-spelled.ensures _ c.spelled-1.given.1)
+    (told-fault _ _ _ _ (start (turn c.before)).pre _ (omega (arith, (turn c.before).loop.inv.1)) _ _ _ _ c.text_of-spelled.ensures _ c.in-Refused.is)
 
 pub overflow_add-b : goal.overflow_add-b
 overflow_add-b c = let l = few-records _ _ _ c.requires in omega (arith, c.records_in-count.ensures)
@@ -30,7 +30,7 @@ loop-b-smaller c = omega (arith, c.records_in-count.ensures)
 pub loop-b-preserved : goal.loop-b-preserved
 loop-b-preserved c = (
   testing-next (turn c.before).loop.inv.0 (omega (arith, (turn c.before).before.before.records-in.ensures))
-      (told-passed _ _ _ _ (start (turn c.before)).pre _ (omega (arith, (turn c.before).loop.inv.1)) _ _ _ _ c.text_of-spelled.ensures _ c.enum_told-1.given.1),
+      (told-passed _ _ _ _ (start (turn c.before)).pre _ (omega (arith, (turn c.before).loop.inv.1)) _ _ _ _ c.text_of-spelled.ensures _ c.in_default.is),
   search rules,
 )
 

@@ -6,15 +6,15 @@ use Rattle.candidates.proofs.Writing.{bare-name, numbered_name}
 use borrow.Author.Rules.{rules}
 use Rattle.candidates.proofs.put_candidate.Goals as goal
 
-abbrev spelt : tie.After-put-byte → tie.After-spell
-spelt c = c.before.before.before
+abbrev spelt : goal.After-put_byte-first → goal.After-spell-count
+spelt c = c.before
 
-abbrev marked : tie.After-put-bytes → tie.After-put-byte
-marked c = c.before.before.before.before.before
+abbrev marked : goal.After-put_bytes-end → goal.After-put_byte-first
+marked c = c.before
 
 -- the base's bytes, counted
 
-long : (c : tie.After-put-byte) → (spelt c).spell.result ≡ length (take (spelt c).spell.result (spelt c).spell.new.1.1.1.1.0)
+long : (c : goal.After-put_byte-first) → (spelt c).spell.result ≡ length (take (spelt c).spell.result (spelt c).spell.new.1.1.1.1.0)
 long c = (spelt c).spell.ensures.counted ∙ sym (ap length (spelt c).spell.ensures.front)
 
 pub slice_bounds-put_bytes-end : goal.slice_bounds-put_bytes-end

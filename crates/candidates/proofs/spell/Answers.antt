@@ -8,10 +8,10 @@ pub returns-in_default : goal.returns-in_default
 returns-in_default c =
     let P = (c.requires.text_value, c.requires.value) in
     let text_of = c.text_of-spelled in
-    absurd (never-refused _ _ _ _ P.0.0 P.0.1 _ _ _ _ (omega (arith, P.1)) text_of.ensures _ c.enum_told-1.given.1)
+    absurd (never-refused _ _ _ _ P.0.0 P.0.1 _ _ _ _ (omega (arith, P.1)) text_of.ensures _ c.in_default.is)
 
 pub returns : goal.returns
 returns c =
     let P = (c.requires.text_value, c.requires.value) in
     let text_of = c.text_of-spelled in
-    stands _ _ _ _ P.0.0 P.0.1 _ _ _ _ (omega (arith, P.1)) text_of.ensures _ c.spelled-1.given.1
+    stands _ _ _ _ P.0.0 P.0.1 _ _ _ _ (omega (arith, P.1)) text_of.ensures _ c.in-Written.is

@@ -6,16 +6,16 @@ use Rattle.collect.proofs.is_called.Goals as goal
 
 pub returns-in-Row : goal.returns-in-Row
 unfolding is_called op_of
-returns-in-Row c = rw c.enum_told-1.given.1
+returns-in-Row c = rw c.in-Row.is
 
 pub returns-in-Drop : goal.returns-in-Drop
 unfolding is_called op_of
-returns-in-Drop c = rw c.enum_told-in-Drop-1.given.1
+returns-in-Drop c = rw c.in-Drop.is
 
 pub returns-in-Name : goal.returns-in-Name
 unfolding is_called op_of
-returns-in-Name c = rw c.enum_told-in-Name-1.given.1
+returns-in-Name c = rw c.in-Name.is
 
 pub returns-in-Call : goal.returns-in-Call
 unfolding is_called op_of
-returns-in-Call c = rw c.op-1.given.1
+returns-in-Call c = rw c.in-Call.is

@@ -8,7 +8,7 @@ use native.Mathlib.Omega.{arith}
 use Rattle.decimal.proofs.put_bytes.Given as goal
 
 abbrev pub invariant-loop-i : goal.invariant-loop-i
-invariant-loop-i l = (l.i ≤ length l.initial.out) × (l.to ≡ l.s + l.i) × (length l.out ≡ length l.at) × (Wrote l.at l.s (take l.i l.initial.out) l.to l.out)
+invariant-loop-i l = (l.i ≤ length l.s) × (l.to ≡ l.at + l.i) × (length l.out ≡ length l.initial.out) × (Wrote l.initial.out l.at (take l.i l.s) l.to l.out)
 
 abbrev pub decreases-loop-i : goal.decreases-loop-i
-decreases-loop-i l = length l.initial.out - l.i
+decreases-loop-i l = length l.s - l.i

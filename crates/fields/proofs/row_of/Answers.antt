@@ -3,4 +3,4 @@ use borrow.Author.Rules.{rules}
 use Rattle.fields.proofs.row_of.Goals as goal
 
 pub returns : goal.returns
-returns c = rw (c.a-1.given.1, c.b-1.given.1, c.c-1.given.1, c.d-1.given.1)
+returns c = rw (c.in-Value.is, c.in-Value-b.is, c.in-Value-c.is, c.in-Value-d.is)

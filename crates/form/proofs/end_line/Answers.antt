@@ -5,6 +5,7 @@ use native.Mathlib.Omega.{arith}
 use Rattle.form.proofs.Ending.{ended, ends-none, ends-bad, ends-over, ends-row, ends-wanted, ends-name, ends-fault, ne_lt}
 use lib.ListN.{take}
 use borrow.Author.Rules.{rules}
+use Rattle.std.proofs.lemmas.Bool.{not-true, not-false}
 use Rattle.form.proofs.end_line.Goals as goal
 
 pub returns-then-part-eq0 : goal.returns-then-part-eq0
@@ -19,21 +20,21 @@ returns-then-not-is_row c =
     let e = c.before in
     let f = e.args.form in
     let l = take f.count e.args.front.now in
-    ended _ _ _ c.standing-then-not-is_row.ensures (ends-bad f.part f.line f.rows l c.if-part-eq5.true (sym (not-true _ c.if-not-is_row.true) ∙ c.is_row.ensures)) (omega arith) (omega arith)
+    ended _ _ _ c.standing-then-not-is_row.ensures (ends-bad f.part f.line f.rows l c.if-part-eq5.true (sym (not-true _ (not-true _ c.if-not-is_row.true)) ∙ c.is_row.ensures)) (omega arith) (omega arith)
 
 pub returns-then-rows-ge-MOST_ROWS : goal.returns-then-rows-ge-MOST_ROWS
 returns-then-rows-ge-MOST_ROWS c =
     let e = c.before in
     let f = e.args.form in
     let l = take f.count e.args.front.now in
-    ended _ _ _ c.standing-then-rows-ge-MOST_ROWS.ensures (ends-over f.part f.line f.rows l c.if-part-eq5.true (sym (not-false _ c.if-not-is_row.false) ∙ c.is_row.ensures) c.if-rows-ge-MOST_ROWS.true) (omega arith) (omega arith)
+    ended _ _ _ c.standing-then-rows-ge-MOST_ROWS.ensures (ends-over f.part f.line f.rows l c.if-part-eq5.true (sym (not-false _ (not-false _ c.if-not-is_row.false)) ∙ c.is_row.ensures) c.if-rows-ge-MOST_ROWS.true) (omega arith) (omega arith)
 
 pub returns-then-part-eq5 : goal.returns-then-part-eq5
 returns-then-part-eq5 c =
     let e = c.before in
     let f = e.args.form in
     let l = take f.count e.args.front.now in
-    ended _ _ _ c.standing-then-part-eq5.ensures (ends-row f.part f.line f.rows l c.if-part-eq5.true (sym (not-false _ c.if-not-is_row.false) ∙ c.is_row.ensures) c.if-rows-ge-MOST_ROWS.false) (omega arith) (omega arith)
+    ended _ _ _ c.standing-then-part-eq5.ensures (ends-row f.part f.line f.rows l c.if-part-eq5.true (sym (not-false _ (not-false _ c.if-not-is_row.false)) ∙ c.is_row.ensures) c.if-rows-ge-MOST_ROWS.false) (omega arith) (omega arith)
 
 pub overflow_add-part : goal.overflow_add-part
 overflow_add-part c = omega (arith, c.requires.0.few)

@@ -6,9 +6,9 @@ use Rattle.form.proofs.is_row.Goals as goal
 pub returns-in_default : goal.returns-in_default
 returns-in_default c =
     let e = c.before in
-    row_fault e.args.front.now e.args.count c.row_at-row.ensures c.enum_told-1.given.1
+    row_fault e.args.front.now e.args.count c.row_at-row.ensures c.in_default.is
 
 pub returns : goal.returns
 returns c =
     let e = c.before in
-    row_read e.args.front.now e.args.count c.row_at-row.ensures _ _ _ _ c.row-1.given.1
+    row_read e.args.front.now e.args.count c.row_at-row.ensures _ _ _ _ c.in-Words.is

@@ -6,7 +6,7 @@ use native.Mathlib.Omega.{arith}
 use Rattle.form.proofs.take_piece.Given as goal
 
 abbrev pub invariant-loop-i : goal.invariant-loop-i
-invariant-loop-i l = Scans l.piece l.initial.front l.initial.at l.front l.at l.i
+invariant-loop-i l = Scans l.initial.front l.piece l.initial.at l.front l.at l.i
 
 abbrev pub decreases-loop-i : goal.decreases-loop-i
-decreases-loop-i l = length l.initial.front - l.i
+decreases-loop-i l = length l.piece - l.i

@@ -10,18 +10,18 @@ use Rattle.grammar.proofs.kinds_of.Goals as goal
 
 pub returns-in-0 : goal.returns-in-0
 unfolding bits_from set_of
-returns-in-0 c = at-number (λ count k. count_ok k 0 count) 0 c.in-0.keys1 refl
+returns-in-0 c = at-number (λ count k. count_ok k 0 count) 0 c.in-0.is refl
 
 pub returns-in-1 : goal.returns-in-1
 unfolding bits_from set_of
-returns-in-1 c = at-number (λ count k. count_ok k 0 count) 1 c.in-1.keys2 refl
+returns-in-1 c = at-number (λ count k. count_ok k 0 count) 1 c.in-1.is refl
 
 pub returns-in-2 : goal.returns-in-2
 unfolding bits_from set_of
-returns-in-2 c = at-number (λ count k. count_ok k 0 count) 2 c.in-2.keys3 refl
+returns-in-2 c = at-number (λ count k. count_ok k 0 count) 2 c.in-2.is refl
 
 pub returns-in_default : goal.returns-in_default
 unfolding bits_from set_of
 returns-in_default c =
     let above : 2 < c.args.count = omega arith in
-    rw (ne_eqb _ 0 c.in_default.rest.0.0.1, ne_eqb _ 1 c.in_default.rest.0.1, ne_eqb _ 2 c.in_default.rest.1, le-ltb c.args.count 2 (omega arith), lt-ltb 0 c.args.count (omega arith), lt-ltb 1 c.args.count (omega arith))
+    rw (ne_eqb _ 0 c.in_default.in_default-own.rest.0.0.1, ne_eqb _ 1 c.in_default.in_default-own.rest.0.1, ne_eqb _ 2 c.in_default.in_default-own.rest.1, le-ltb c.args.count 2 (omega arith), lt-ltb 0 c.args.count (omega arith), lt-ltb 1 c.args.count (omega arith))

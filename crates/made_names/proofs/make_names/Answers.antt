@@ -6,17 +6,17 @@ use borrow.Author.Rules.{rules}
 use Rattle.made_names.proofs.make_names.Goals as goal
 
 pub returns-in-Refused : goal.returns-in-Refused
-returns-in-Refused c = told-front _ _ _ _ _ _ (sym c.front-tested.ensures ∙ c.tested-1.given.1)
+returns-in-Refused c = told-front _ _ _ _ _ _ (sym c.front-tested.ensures ∙ c.in-Refused.is)
 
 pub first_fault-fault-requires : goal.first_fault-fault-requires
-first_fault-fault-requires c = sym c.front-tested.ensures ∙ c.enum_told-1.given.1
+first_fault-fault-requires c = sym c.front-tested.ensures ∙ c.in_default.is
 
 pub returns-in-Refused-fault : goal.returns-in-Refused-fault
 returns-in-Refused-fault c =
     let front = c.front-tested in
     let enum_told = c.enum_told-1 in
     let first-fault = c.first_fault-fault in
-    told-fault _ _ _ _ _ _ (sym front.ensures ∙ enum_told.given.1) (sym first-fault.ensures ∙ c.fault-1.given.1)
+    told-fault _ _ _ _ _ _ (sym front.ensures ∙ enum_told.given.1) (sym first-fault.ensures ∙ c.in-Refused-fault.is)
 
 pub over-requires : goal.over-requires
 over-requires c = let all = let front = c.front-tested in

@@ -13,23 +13,23 @@ use Rattle.numbers.proofs.Looking.{few-entries}
 use borrow.Author.Rules.{rules}
 use Rattle.numbers.proofs.choose.Goals as goal
 
-abbrev start : tie.After-find-candidate → tie.Start
-start c = c.before.before.before.before.before.before.before.before
+abbrev start : goal.After-find_candidate-bare → goal.Start
+start c = c.before
 
-abbrev texts : tie.After-find-candidate → List (List ℕ)
+abbrev texts : goal.After-find_candidate-bare → List (List ℕ)
 texts c = entries (start c).args.bindings.now (start c).args.names.now (start c).args.text.now (start c).args.numbers.now (start c).args.count
 
-many : (c : tie.After-find-candidate) → length (texts c) ≡ (start c).args.count
+many : (c : goal.After-find_candidate-bare) → length (texts c) ≡ (start c).args.count
 many c = entries-long _ _ _ _ _
 
-low : (c : tie.After-find-candidate) → c.find-candidate.result ≤ length (texts c)
-low c = omega (arith, c.find-candidate.ensures.1, many c)
+low : (c : goal.After-find_candidate-bare) → c.find_candidate-bare.result ≤ length (texts c)
+low c = omega (arith, c.find_candidate-bare.ensures.1, many c)
 
-abbrev base : tie.After-find-candidate → List ℕ
+abbrev base : goal.After-find_candidate-bare → List ℕ
 base c = base_text (start c).args.b (start c).args.bindings.now (start c).args.names.now (start c).args.text.now
 
-on : (c : tie.Else1) → Seeking (texts c.before) (base c.before) (get_or (start c.before).args.reached.now c.before.find-candidate.result 0 + 1)
-on c = seeks-on (start c.before).requires.1.1.1.1 _ c.before.find-candidate.ensures.0 c.if1.false (low c.before)
+on : (c : goal.Else-bare-eq0) → Seeking (texts c.before) (base c.before) (get_or (start c.before).args.reached.now c.find_candidate-bare.result 0 + 1)
+on c = seeks-on (start c.before).requires.1.1.1.1 _ c.find_candidate-bare.ensures.0 c.if-bare-eq0.false (low c.before)
 
 pub returns-then-bare-eq0 : goal.returns-then-bare-eq0
 returns-then-bare-eq0 c =

@@ -11,11 +11,11 @@ use Rattle.numbers.proofs.Entering.{at_front, front_long}
 use borrow.Author.Rules.{rules}
 use Rattle.numbers.proofs.enter_candidate.Goals as goal
 
-abbrev start : tie.After-name → tie.Start
-start c = c.before.before.before.before.before.before.before
+abbrev start : goal.After-name-1 → goal.Start
+start c = c.before
 
-abbrev put : tie.After-slice-known4 → tie.After-put-candidate
-put c = c.before.before.before.before.before.before.before.before.before
+abbrev put : goal.After-slice_known-4-1 → goal.After-put_candidate-end
+put c = c.before
 
 pub put_candidate-end-requires : goal.put_candidate-end-requires
 put_candidate-end-requires c = let all = let P = (start c).requires in

@@ -6,7 +6,7 @@ use Rattle.numbers.proofs.Making.{Entering, entering_start, entering_next, enter
 use Rattle.numbers.proofs.enter_names.Given as goal
 
 abbrev pub invariant-loop-k : goal.invariant-loop-k
-invariant-loop-k l = Entering l.count l.initial.lasts l.lasts l.befores (length l.names) (length l.text) l.k
+invariant-loop-k l = Entering l.names l.text l.lasts l.befores (length l.initial.lasts) (length l.initial.befores) l.k
 
 abbrev pub decreases-loop-k : goal.decreases-loop-k
-decreases-loop-k l = length l.count / 8 - l.k
+decreases-loop-k l = length l.names / 8 - l.k

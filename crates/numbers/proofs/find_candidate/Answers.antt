@@ -11,13 +11,13 @@ use Rattle.numbers.proofs.Entering.{at_front, front_long}
 use borrow.Author.Rules.{rules}
 use Rattle.numbers.proofs.find_candidate.Goals as goal
 
-abbrev start : tie.After-name → tie.Start
-start c = c.before.before.before.before.before.before.before.before
+abbrev start : goal.After-name-1 → goal.Start
+start c = c.before
 
-abbrev put : tie.After-find → tie.After-put-candidate
-put c = c.before.before.before
+abbrev put : goal.After-find → goal.After-put_candidate-end
+put c = c.before
 
-abbrev texts : tie.After-name → List (List ℕ)
+abbrev texts : goal.After-name-1 → List (List ℕ)
 texts c = entries (start c).args.bindings.now (start c).args.names.now (start c).args.text.now (start c).args.numbers.now (start c).args.count
 
 pub put_candidate-end-requires : goal.put_candidate-end-requires

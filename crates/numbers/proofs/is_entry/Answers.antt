@@ -10,14 +10,14 @@ use Rattle.numbers.proofs.Looking.{given, is_name_lem}
 use borrow.Author.Rules.{rules}
 use Rattle.numbers.proofs.is_entry.Goals as goal
 
-abbrev start : tie.After-shared-slice-known5 → tie.Start
-start c = c.before.before.before.before.before
+abbrev start : goal.After-shared_slice_known-5-1 → goal.Start
+start c = c.before
 
-abbrev put : tie.After-same-bytes → tie.After-put-candidate
-put c = c.before.before.before
+abbrev put : goal.After-same_bytes → goal.After-put_candidate-end
+put c = c.before
 
-abbrev other : tie.After-put-candidate → tie.Else1
-other c = c.before.before.before.before
+abbrev other : goal.After-put_candidate-end → goal.Else-e-named
+other c = c.before
 
 pub is_spelled-requires : goal.is_spelled-requires
 is_spelled-requires c = let all = let a = (start c.before).args in

@@ -15,8 +15,8 @@ use Rattle.numbers.proofs.number_all.Given as goal
 
 abbrev pub invariant-loop-k : goal.invariant-loop-k
 invariant-loop-k l =
-    Made l.count l.initial.lasts l.initial.befores l.lasts l.befores l.reached l.numbers l.bytes l.k × (length l.lasts ≡ length l.bindings) × (length l.befores ≡ length l.names) × (length l.reached ≡ length l.text) × (length l.numbers ≡ length l.named)
+    Made l.bindings l.names l.text l.lasts l.befores l.reached l.numbers l.bytes l.k × (length l.lasts ≡ length l.initial.lasts) × (length l.befores ≡ length l.initial.befores) × (length l.reached ≡ length l.initial.reached) × (length l.numbers ≡ length l.initial.numbers)
 
 abbrev pub decreases-loop-k : goal.decreases-loop-k
 decreases-loop-k l =
-    records_in l.count - l.k
+    records_in l.bindings - l.k

@@ -15,20 +15,20 @@ pub shape_of-rows-in_default : goal.shape_of-rows-in_default
 shape_of-rows-in_default c = c.loop-p.invariant.long
 
 pub returns-in_default : goal.returns-in_default
-returns-in_default c = turn-fault _ _ _ _ _ _ _ c.loop-p.invariant _ _ (line_first _ _ _ c.find-e.ensures c.loop-p-test.true) (sym c.row_at-row.ensures ∙ c.enum_told-1.given.1)
+returns-in_default c = turn-fault _ _ _ _ _ _ _ c.loop-p.invariant _ _ (line_first _ _ _ c.find-e.ensures c.loop-p-test.true) (sym c.row_at-row.ensures ∙ c.in_default.is)
 
 pub shape_of-rows-then-n-ge-MOST_ROWS : goal.shape_of-rows-then-n-ge-MOST_ROWS
 shape_of-rows-then-n-ge-MOST_ROWS c = c.loop-p.invariant.long
 
 pub returns-then-n-ge-MOST_ROWS : goal.returns-then-n-ge-MOST_ROWS
-returns-then-n-ge-MOST_ROWS c = turn-full _ _ _ _ _ _ _ c.loop-p.invariant _ _ (line_first _ _ _ c.find-e.ensures c.loop-p-test.true) (sym c.row_at-row.ensures ∙ c.row-1.given.1) c.if-n-ge-MOST_ROWS.true
+returns-then-n-ge-MOST_ROWS c = turn-full _ _ _ _ _ _ _ c.loop-p.invariant _ _ (line_first _ _ _ c.find-e.ensures c.loop-p-test.true) (sym c.row_at-row.ensures ∙ c.in-Words.is) c.if-n-ge-MOST_ROWS.true
 
 pub loop-p-smaller : goal.loop-p-smaller
 loop-p-smaller c = omega (arith, next_ahead c.args.s.now _ _ _ c.find-e.ensures c.loop-p-test.true c.next_line-p.ensures)
 
 pub loop-p-preserved : goal.loop-p-preserved
 loop-p-preserved c =
-    turn-next _ _ _ _ _ _ _ c.loop-p.invariant _ _ (line-next _ _ _ _ c.find-e.ensures c.loop-p-test.true c.next_line-p.ensures) _ _ _ _ _ _ refl c.next_line-p.ensures.inside (sym c.row_at-row.ensures ∙ c.row-1.given.1) c.if-n-ge-MOST_ROWS.false c.put_row.ensures c.put_row.auto.0
+    turn-next _ _ _ _ _ _ _ c.loop-p.invariant _ _ (line-next _ _ _ _ c.find-e.ensures c.loop-p-test.true c.next_line-p.ensures) _ _ _ _ _ _ refl c.next_line-p.ensures.inside (sym c.row_at-row.ensures ∙ c.in-Words.is) c.if-n-ge-MOST_ROWS.false c.put_row.ensures c.put_row.auto.0
 
 pub shape_of-rows : goal.shape_of-rows
 shape_of-rows c = c.loop-p.invariant.long

@@ -6,16 +6,16 @@ use Rattle.passes.proofs.scan_of.Goals as goal
 
 pub returns-in-Row : goal.returns-in-Row
 unfolding op_of scan_of
-returns-in-Row c = rw (c.op-1.given.1, c.scan_row.ensures)
+returns-in-Row c = rw (c.in-Row.is, c.scan_row.ensures)
 
 pub returns-in-Drop : goal.returns-in-Drop
 unfolding op_of scan_of
-returns-in-Drop c = rw c.enum_told-1.given.1
+returns-in-Drop c = rw c.in-Drop.is
 
 pub returns-in-Name : goal.returns-in-Name
 unfolding op_of scan_of
-returns-in-Name c = rw c.op-in-Name-1.given.1
+returns-in-Name c = rw c.in-Name.is
 
 pub returns-in-Call : goal.returns-in-Call
 unfolding op_of scan_of
-returns-in-Call c = rw (c.op-in-Call-1.given.1, c.within.ensures)
+returns-in-Call c = rw (c.in-Call.is, c.within.ensures)

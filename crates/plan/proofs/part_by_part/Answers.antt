@@ -3,10 +3,10 @@ use borrow.Author.Rules.{rules}
 use Rattle.plan.proofs.part_by_part.Goals as goal
 
 pub returns-in-Row : goal.returns-in-Row
-returns-in-Row c = rw c.op-1.given.1
+returns-in-Row c = rw c.in-Row.is
 
 pub returns-in-Name : goal.returns-in-Name
-returns-in-Name c = rw c.op-in-Name-1.given.1
+returns-in-Name c = rw c.in-Name.is
 
 pub returns-in-Call : goal.returns-in-Call
-returns-in-Call c = rw c.op-in-Call-1.given.1
+returns-in-Call c = rw c.in-Call.is

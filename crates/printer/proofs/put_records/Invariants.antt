@@ -11,7 +11,7 @@ use Rattle.printer.proofs.put_records.Given as goal
 
 abbrev pub invariant-loop-i : goal.invariant-loop-i
 invariant-loop-i l =
-    (l.i ≤ l.initial.out) × (l.to ≤ l.records + 33 * l.i) × (length l.out ≡ length l.at) × (Wrote l.at l.records (record_lines (take (3 * l.i) (words l.n))) l.to l.out)
+    (l.i ≤ l.n) × (l.to ≤ l.at + 33 * l.i) × (length l.out ≡ length l.initial.out) × (Wrote l.initial.out l.at (record_lines (take (3 * l.i) (words l.records))) l.to l.out)
 
 abbrev pub decreases-loop-i : goal.decreases-loop-i
-decreases-loop-i l = l.initial.out - l.i
+decreases-loop-i l = l.n - l.i

@@ -11,7 +11,7 @@ use Rattle.printer.proofs.put_rows.Given as goal
 
 abbrev pub invariant-loop-i : goal.invariant-loop-i
 invariant-loop-i l =
-    (l.i ≤ l.initial.out) × (l.to ≤ l.rows + 44 * l.i) × (length l.out ≡ length l.at) × (Wrote l.at l.rows (row_lines (take (4 * l.i) (words l.n))) l.to l.out)
+    (l.i ≤ l.n) × (l.to ≤ l.at + 44 * l.i) × (length l.out ≡ length l.initial.out) × (Wrote l.initial.out l.at (row_lines (take (4 * l.i) (words l.rows))) l.to l.out)
 
 abbrev pub decreases-loop-i : goal.decreases-loop-i
-decreases-loop-i l = l.initial.out - l.i
+decreases-loop-i l = l.n - l.i

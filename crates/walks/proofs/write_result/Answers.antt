@@ -8,6 +8,7 @@ use Rattle.acts.specs.View.{switches_of}
 use Rattle.walks.proofs.Quiet.{quiet-steps, none_made}
 use Rattle.walks.proofs.Readying.{given-names, given-rows, given-range, bindings_few, collected, walk_asks, no-room-rows, no-room-bindings, all-written}
 use borrow.Author.Rules.{rules}
+use Rattle.std.proofs.lemmas.Bool.{not-true, not-false}
 use Rattle.walks.proofs.write_result.Goals as goal
 
 pub make_bindings-count-requires : goal.make_bindings-count-requires
@@ -28,7 +29,7 @@ unchanged-requires c = record {
 }
 
 pub returns-then-not-has_room : goal.returns-then-not-has_room
-returns-then-not-has_room c = no-room-rows _ _ _ _ _ (collected c.requires c.make_bindings-count.ensures.kept c.make_bindings-count.ensures.filed_2) _ _ (sym c.has_room.ensures ∙ not-true _ c.if-not-has_room.true)
+returns-then-not-has_room c = no-room-rows _ _ _ _ _ (collected c.requires c.make_bindings-count.ensures.kept c.make_bindings-count.ensures.filed_2) _ _ (sym c.has_room.ensures ∙ not-true _ (not-true _ c.if-not-has_room.true))
 
 pub returns-then-out_bindings-count : goal.returns-then-out_bindings-count
 returns-then-out_bindings-count c = no-room-bindings _ _ _ _ _ (collected c.requires c.make_bindings-count.ensures.kept c.make_bindings-count.ensures.filed_2) _ _ (omega arith)
@@ -43,4 +44,4 @@ emit-written-requires c =
 
 pub returns : goal.returns
 returns c =
-    all-written _ _ _ _ _ (collected c.requires c.make_bindings-count.ensures.kept c.make_bindings-count.ensures.filed_2) _ _ _ _ _ _ c.emit-written.ensures c.write_records-recorded.ensures (sym c.has_room.ensures ∙ not-false _ c.if-not-has_room.false) (omega arith)
+    all-written _ _ _ _ _ (collected c.requires c.make_bindings-count.ensures.kept c.make_bindings-count.ensures.filed_2) _ _ _ _ _ _ c.emit-written.ensures c.write_records-recorded.ensures (sym c.has_room.ensures ∙ not-false _ (not-false _ c.if-not-has_room.false)) (omega arith)

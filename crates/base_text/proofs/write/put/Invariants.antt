@@ -11,7 +11,7 @@ use lib.Seq.{paste, paste-zero, paste-suc, get_or-drop}
 use Rattle.base_text.proofs.write.put.Given as goal
 
 abbrev pub invariant-loop-i : goal.invariant-loop-i
-invariant-loop-i l = (l.i ≤ l.count) × ((l.out ≡ paste l.at l.initial.out (drop l.from l.src) l.i) × (length l.out ≡ length l.at))
+invariant-loop-i l = (l.i ≤ l.count) × ((l.out ≡ paste l.initial.out l.at (drop l.from l.src) l.i) × (length l.out ≡ length l.initial.out))
 
 abbrev pub decreases-loop-i : goal.decreases-loop-i
 decreases-loop-i l = l.count - l.i

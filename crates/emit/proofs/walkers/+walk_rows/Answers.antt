@@ -21,6 +21,7 @@ use Rattle.emit.proofs.Dressing.{body-room, inner_room, dressed_written}
 use Rattle.emit.proofs.Lists.{Turning, row_room, row-fewer, turn_on, turn-less, turned}
 use borrow.Author.Rules.{rules}
 use Prim.Native.Nat.{ℕ, ◌+◌, ◌*◌, ◌-◌, ◌<◌}
+use Rattle.std.proofs.lemmas.Bool.{not-true, not-false}
 use Rattle.emit.proofs.walkers.+walk_rows.Goals as goal
 
 pub around-overflow_add-at : goal.around-overflow_add-at
@@ -194,30 +195,30 @@ statement-around-next-requires t c =
 
 pub statement-returns-then-not-plan : goal.statement-returns-then-not-plan
 statement-returns-then-not-plan t c =
-    named (statement-plain c.args.rows.now c.args.names.now c.args.text.now c.args.made.now c.args.walk c.args.plan c.requires.row_pre.formed c.requires.kind_value.0 c.requires.kind_value.1 (flipped c.args.plan.first c.if-not-plan.true)) c.around-next.ensures
+    named (statement-plain c.args.rows.now c.args.names.now c.args.text.now c.args.made.now c.args.walk c.args.plan c.requires.row_pre.formed c.requires.kind_value.0 c.requires.kind_value.1 (flipped c.args.plan.first (not-true _ c.if-not-plan.true))) c.around-next.ensures
 
 pub statement-append-inner-requires : goal.statement-append-inner-requires
 statement-append-inner-requires t c =
-    let h0 = assigned-size c.args.rows.now c.args.names.now c.args.text.now c.args.made.now c.args.walk c.args.plan c.requires.row_pre.formed c.requires.kind_value.0 c.requires.kind_value.1 (unnot c.args.plan.first c.if-not-plan.false) in let h1 = c.requires.plan_bound in let h2 = c.around-next.ensures.next in let h3 = size-one c.args.plan.words.kind c.args.plan.words.attr c.args.plan.words.name (inside c.args.rows.now c.args.names.now c.args.text.now c.args.made.now c.args.walk c.args.plan.inner) in omega arith
+    let h0 = assigned-size c.args.rows.now c.args.names.now c.args.text.now c.args.made.now c.args.walk c.args.plan c.requires.row_pre.formed c.requires.kind_value.0 c.requires.kind_value.1 (unnot c.args.plan.first (not-false _ c.if-not-plan.false)) in let h1 = c.requires.plan_bound in let h2 = c.around-next.ensures.next in let h3 = size-one c.args.plan.words.kind c.args.plan.words.attr c.args.plan.words.name (inside c.args.rows.now c.args.names.now c.args.text.now c.args.made.now c.args.walk c.args.plan.inner) in omega arith
 
 pub statement-overflow_cast-plan : goal.statement-overflow_cast-plan
 statement-overflow_cast-plan t c = let h0 = c.requires.row_pre.bound in omega arith
 
 pub statement-assignment-last-requires : goal.statement-assignment-last-requires
 statement-assignment-last-requires t c =
-    let h0 = assigned-size c.args.rows.now c.args.names.now c.args.text.now c.args.made.now c.args.walk c.args.plan c.requires.row_pre.formed c.requires.kind_value.0 c.requires.kind_value.1 (unnot c.args.plan.first c.if-not-plan.false) in let h1 = c.requires.plan_bound in let h2 = c.around-next.ensures.next in let h3 = size-one c.args.plan.words.kind c.args.plan.words.attr c.args.plan.words.name (inside c.args.rows.now c.args.names.now c.args.text.now c.args.made.now c.args.walk c.args.plan.inner) in let h4 = c.append-inner.ensures.next in omega arith
+    let h0 = assigned-size c.args.rows.now c.args.names.now c.args.text.now c.args.made.now c.args.walk c.args.plan c.requires.row_pre.formed c.requires.kind_value.0 c.requires.kind_value.1 (unnot c.args.plan.first (not-false _ c.if-not-plan.false)) in let h1 = c.requires.plan_bound in let h2 = c.around-next.ensures.next in let h3 = size-one c.args.plan.words.kind c.args.plan.words.attr c.args.plan.words.name (inside c.args.rows.now c.args.names.now c.args.text.now c.args.made.now c.args.walk c.args.plan.inner) in let h4 = c.append-inner.ensures.next in omega arith
 
 pub statement-overflow_cast-last : goal.statement-overflow_cast-last
 statement-overflow_cast-last t c =
-    let h0 = assigned-size c.args.rows.now c.args.names.now c.args.text.now c.args.made.now c.args.walk c.args.plan c.requires.row_pre.formed c.requires.kind_value.0 c.requires.kind_value.1 (unnot c.args.plan.first c.if-not-plan.false) in let h1 = c.requires.plan_bound in let h2 = c.around-next.ensures.next in let h3 = size-one c.args.plan.words.kind c.args.plan.words.attr c.args.plan.words.name (inside c.args.rows.now c.args.names.now c.args.text.now c.args.made.now c.args.walk c.args.plan.inner) in let h4 = c.append-inner.ensures.next in let h5 = c.assignment-last.ensures.next in let h6 = size-assignment c.args.plan.bind in omega arith
+    let h0 = assigned-size c.args.rows.now c.args.names.now c.args.text.now c.args.made.now c.args.walk c.args.plan c.requires.row_pre.formed c.requires.kind_value.0 c.requires.kind_value.1 (unnot c.args.plan.first (not-false _ c.if-not-plan.false)) in let h1 = c.requires.plan_bound in let h2 = c.around-next.ensures.next in let h3 = size-one c.args.plan.words.kind c.args.plan.words.attr c.args.plan.words.name (inside c.args.rows.now c.args.names.now c.args.text.now c.args.made.now c.args.walk c.args.plan.inner) in let h4 = c.append-inner.ensures.next in let h5 = c.assignment-last.ensures.next in let h6 = size-assignment c.args.plan.bind in omega arith
 
 pub statement-patch_end-requires : goal.statement-patch_end-requires
 statement-patch_end-requires t c =
-    let h0 = assigned-size c.args.rows.now c.args.names.now c.args.text.now c.args.made.now c.args.walk c.args.plan c.requires.row_pre.formed c.requires.kind_value.0 c.requires.kind_value.1 (unnot c.args.plan.first c.if-not-plan.false) in let h1 = c.requires.plan_bound in let h2 = c.around-next.ensures.next in let h3 = size-one c.args.plan.words.kind c.args.plan.words.attr c.args.plan.words.name (inside c.args.rows.now c.args.names.now c.args.text.now c.args.made.now c.args.walk c.args.plan.inner) in let h4 = c.append-inner.ensures.next in let h5 = c.assignment-last.ensures.next in let h6 = size-assignment c.args.plan.bind in omega arith
+    let h0 = assigned-size c.args.rows.now c.args.names.now c.args.text.now c.args.made.now c.args.walk c.args.plan c.requires.row_pre.formed c.requires.kind_value.0 c.requires.kind_value.1 (unnot c.args.plan.first (not-false _ c.if-not-plan.false)) in let h1 = c.requires.plan_bound in let h2 = c.around-next.ensures.next in let h3 = size-one c.args.plan.words.kind c.args.plan.words.attr c.args.plan.words.name (inside c.args.rows.now c.args.names.now c.args.text.now c.args.made.now c.args.walk c.args.plan.inner) in let h4 = c.append-inner.ensures.next in let h5 = c.assignment-last.ensures.next in let h6 = size-assignment c.args.plan.bind in omega arith
 
 pub statement-returns : goal.statement-returns
 statement-returns t c =
-    named (statement-assigned c.args.rows.now c.args.names.now c.args.text.now c.args.made.now c.args.walk c.args.plan c.requires.row_pre.formed c.requires.kind_value.0 c.requires.kind_value.1 (unnot c.args.plan.first c.if-not-plan.false)) (beside c.around-next.ensures (nest c.append-inner.ensures c.assignment-last.ensures c.patch_end.ensures))
+    named (statement-assigned c.args.rows.now c.args.names.now c.args.text.now c.args.made.now c.args.walk c.args.plan c.requires.row_pre.formed c.requires.kind_value.0 c.requires.kind_value.1 (unnot c.args.plan.first (not-false _ c.if-not-plan.false))) (beside c.around-next.ensures (nest c.append-inner.ensures c.assignment-last.ensures c.patch_end.ensures))
 
 pub transform_call_expression_for_super-transform_member_expression_for_super-this-requires : goal.transform_call_expression_for_super-transform_member_expression_for_super-this-requires
 transform_call_expression_for_super-transform_member_expression_for_super-this-requires t c = (let m = c.decreases in omega arith, (c.requires.inner_pre, (c.requires.q_bound.1, let h0 = c.requires.inner_bound in let h1 = c.append-call.ensures.next in omega arith)))
@@ -272,51 +273,51 @@ undressed-returns-then-plan t c = named (sequence-rows c.args.rows.now c.args.na
 pub undressed-kept-requires : goal.undressed-kept-requires
 unfolding op_of
 undressed-kept-requires t c =
-    (let m = c.decreases in omega arith, (c.requires.row_pre.inner, (subst (λ (o : Becomes). OpLow c.args.walk.cap (op_of o)) c.op-1.given.1 c.requires.row_pre.low, let h0 = row-size c.args.rows.now c.args.names.now c.args.text.now c.args.made.now c.args.walk c.args.plan c.requires.row_pre.formed c.if-plan.false c.requires.first_value _ _ _ (ap op_of c.op-1.given.1) in let h1 = c.requires.none_bound in omega arith)))
+    (let m = c.decreases in omega arith, (c.requires.row_pre.inner, (subst (λ (o : Becomes). OpLow c.args.walk.cap (op_of o)) c.in-Row.is c.requires.row_pre.low, let h0 = row-size c.args.rows.now c.args.names.now c.args.text.now c.args.made.now c.args.walk c.args.plan c.requires.row_pre.formed c.if-plan.false c.requires.first_value _ _ _ (ap op_of c.in-Row.is) in let h1 = c.requires.none_bound in omega arith)))
 
 pub undressed-list-requires : goal.undressed-list-requires
 unfolding op_of
 undressed-list-requires t c =
-    (let m = c.decreases in omega arith, (c.requires.row_pre.inner, let h0 = drop-size c.args.rows.now c.args.names.now c.args.text.now c.args.made.now c.args.walk c.args.plan c.requires.row_pre.formed c.if-plan.false c.requires.first_value (ap op_of c.enum_told-1.given.1) in let h1 = c.requires.none_bound in omega arith))
+    (let m = c.decreases in omega arith, (c.requires.row_pre.inner, let h0 = drop-size c.args.rows.now c.args.names.now c.args.text.now c.args.made.now c.args.walk c.args.plan c.requires.row_pre.formed c.if-plan.false c.requires.first_value (ap op_of c.in-Drop.is) in let h1 = c.requires.none_bound in omega arith))
 
 pub undressed-captured_identifier-requires : goal.undressed-captured_identifier-requires
 unfolding op_of
 undressed-captured_identifier-requires t c = record {
-  made_len = (c.requires.row_pre.inner.holds.store.long, (c.requires.row_pre.inner.holds.cap_low, (subst (λ (o : Becomes). OpLow c.args.walk.cap (op_of o)) c.op-in-Name-1.given.1 c.requires.row_pre.low).1.1));
-  at_bound = let h0 = name-size c.args.rows.now c.args.names.now c.args.text.now c.args.made.now c.args.walk c.args.plan c.requires.row_pre.formed c.if-plan.false c.requires.first_value _ _ (ap op_of c.op-in-Name-1.given.1) in let h1 = c.requires.none_bound in omega arith;
+  made_len = (c.requires.row_pre.inner.holds.store.long, (c.requires.row_pre.inner.holds.cap_low, (subst (λ (o : Becomes). OpLow c.args.walk.cap (op_of o)) c.in-Name.is c.requires.row_pre.low).1.1));
+  at_bound = let h0 = name-size c.args.rows.now c.args.names.now c.args.text.now c.args.made.now c.args.walk c.args.plan c.requires.row_pre.formed c.if-plan.false c.requires.first_value _ _ (ap op_of c.in-Name.is) in let h1 = c.requires.none_bound in omega arith;
 }
 
 pub undressed-transform_call_expression_for_super-requires : goal.undressed-transform_call_expression_for_super-requires
 unfolding op_of
 undressed-transform_call_expression_for_super-requires t c =
-    (let m = c.decreases in omega arith, (c.requires.row_pre.inner, ((c.requires.row_pre.here.this, ((subst (λ (o : Becomes). OpLow c.args.walk.cap (op_of o)) c.op-in-Call-1.given.1 c.requires.row_pre.low).1.0, (subst (λ (o : Becomes). OpLow c.args.walk.cap (op_of o)) c.op-in-Call-1.given.1 c.requires.row_pre.low).0)), let h0 = called-size c.args.rows.now c.args.names.now c.args.text.now c.args.made.now c.args.walk c.args.plan c.requires.row_pre.formed c.if-plan.false c.requires.first_value _ _ _ (as_called (ap op_of c.op-in-Call-1.given.1) c.if-called.true) c.requires.row_pre.inner.holds.store c.requires.row_pre.here.this in let h1 = c.requires.none_bound in omega arith)))
+    (let m = c.decreases in omega arith, (c.requires.row_pre.inner, ((c.requires.row_pre.here.this, ((subst (λ (o : Becomes). OpLow c.args.walk.cap (op_of o)) c.in-Call.is c.requires.row_pre.low).1.0, (subst (λ (o : Becomes). OpLow c.args.walk.cap (op_of o)) c.in-Call.is c.requires.row_pre.low).0)), let h0 = called-size c.args.rows.now c.args.names.now c.args.text.now c.args.made.now c.args.walk c.args.plan c.requires.row_pre.formed c.if-plan.false c.requires.first_value _ _ _ (as_called (ap op_of c.in-Call.is) c.if-called.true) c.requires.row_pre.inner.holds.store c.requires.row_pre.here.this in let h1 = c.requires.none_bound in omega arith)))
 
 pub undressed-returns-then-called : goal.undressed-returns-then-called
 unfolding op_of
 undressed-returns-then-called t c =
-    named (called-rows c.args.rows.now c.args.names.now c.args.text.now c.args.made.now c.args.walk c.args.plan c.requires.row_pre.formed c.if-plan.false c.requires.first_value _ _ _ (as_called (ap op_of c.op-in-Call-1.given.1) c.if-called.true) c.requires.row_pre.inner.holds.store c.requires.row_pre.here.this) c.transform_call_expression_for_super.ensures
+    named (called-rows c.args.rows.now c.args.names.now c.args.text.now c.args.made.now c.args.walk c.args.plan c.requires.row_pre.formed c.if-plan.false c.requires.first_value _ _ _ (as_called (ap op_of c.in-Call.is) c.if-called.true) c.requires.row_pre.inner.holds.store c.requires.row_pre.here.this) c.transform_call_expression_for_super.ensures
 
 pub undressed-transform_member_expression_for_super-requires : goal.undressed-transform_member_expression_for_super-requires
 unfolding op_of
 undressed-transform_member_expression_for_super-requires t c =
-    (let m = c.decreases in omega arith, (c.requires.row_pre.inner, (((subst (λ (o : Becomes). OpLow c.args.walk.cap (op_of o)) c.op-in-Call-1.given.1 c.requires.row_pre.low).1.0, (subst (λ (o : Becomes). OpLow c.args.walk.cap (op_of o)) c.op-in-Call-1.given.1 c.requires.row_pre.low).0), let h0 = call-size c.args.rows.now c.args.names.now c.args.text.now c.args.made.now c.args.walk c.args.plan c.requires.row_pre.formed c.if-plan.false c.requires.first_value _ _ _ (as_called (ap op_of c.op-in-Call-1.given.1) c.if-called.false) in let h1 = c.requires.none_bound in omega arith)))
+    (let m = c.decreases in omega arith, (c.requires.row_pre.inner, (((subst (λ (o : Becomes). OpLow c.args.walk.cap (op_of o)) c.in-Call.is c.requires.row_pre.low).1.0, (subst (λ (o : Becomes). OpLow c.args.walk.cap (op_of o)) c.in-Call.is c.requires.row_pre.low).0), let h0 = call-size c.args.rows.now c.args.names.now c.args.text.now c.args.made.now c.args.walk c.args.plan c.requires.row_pre.formed c.if-plan.false c.requires.first_value _ _ _ (as_called (ap op_of c.in-Call.is) c.if-called.false) in let h1 = c.requires.none_bound in omega arith)))
 
 pub undressed-returns-in-Row : goal.undressed-returns-in-Row
 unfolding op_of
 undressed-returns-in-Row t c =
-    named (row-rows c.args.rows.now c.args.names.now c.args.text.now c.args.made.now c.args.walk c.args.plan c.requires.row_pre.formed c.if-plan.false c.requires.first_value _ _ _ (ap op_of c.op-1.given.1)) c.kept.ensures
+    named (row-rows c.args.rows.now c.args.names.now c.args.text.now c.args.made.now c.args.walk c.args.plan c.requires.row_pre.formed c.if-plan.false c.requires.first_value _ _ _ (ap op_of c.in-Row.is)) c.kept.ensures
 
 pub undressed-returns-in-Drop : goal.undressed-returns-in-Drop
 unfolding op_of
 undressed-returns-in-Drop t c =
-    named (drop-rows c.args.rows.now c.args.names.now c.args.text.now c.args.made.now c.args.walk c.args.plan c.requires.row_pre.formed c.if-plan.false c.requires.first_value (ap op_of c.enum_told-1.given.1)) c.list.ensures
+    named (drop-rows c.args.rows.now c.args.names.now c.args.text.now c.args.made.now c.args.walk c.args.plan c.requires.row_pre.formed c.if-plan.false c.requires.first_value (ap op_of c.in-Drop.is)) c.list.ensures
 
 pub undressed-returns-in-Name : goal.undressed-returns-in-Name
 unfolding op_of
 undressed-returns-in-Name t c =
-    named (captured-rows c.args.rows.now c.args.names.now c.args.text.now c.args.made.now c.args.walk c.args.plan c.requires.row_pre.formed c.if-plan.false c.requires.first_value _ _ (ap op_of c.op-in-Name-1.given.1) c.requires.row_pre.inner.holds.store (subst (λ (o : Becomes). OpLow c.args.walk.cap (op_of o)) c.op-in-Name-1.given.1 c.requires.row_pre.low).0 (subst (λ (o : Becomes). OpLow c.args.walk.cap (op_of o)) c.op-in-Name-1.given.1 c.requires.row_pre.low).1.0 (subst (λ (o : Becomes). OpLow c.args.walk.cap (op_of o)) c.op-in-Name-1.given.1 c.requires.row_pre.low).1.1) c.captured_identifier.ensures
+    named (captured-rows c.args.rows.now c.args.names.now c.args.text.now c.args.made.now c.args.walk c.args.plan c.requires.row_pre.formed c.if-plan.false c.requires.first_value _ _ (ap op_of c.in-Name.is) c.requires.row_pre.inner.holds.store (subst (λ (o : Becomes). OpLow c.args.walk.cap (op_of o)) c.in-Name.is c.requires.row_pre.low).0 (subst (λ (o : Becomes). OpLow c.args.walk.cap (op_of o)) c.in-Name.is c.requires.row_pre.low).1.0 (subst (λ (o : Becomes). OpLow c.args.walk.cap (op_of o)) c.in-Name.is c.requires.row_pre.low).1.1) c.captured_identifier.ensures
 
 pub undressed-returns-else-called : goal.undressed-returns-else-called
 unfolding op_of
 undressed-returns-else-called t c =
-    named (call_rows c.args.rows.now c.args.names.now c.args.text.now c.args.made.now c.args.walk c.args.plan c.requires.row_pre.formed c.if-plan.false c.requires.first_value _ _ _ (as_called (ap op_of c.op-in-Call-1.given.1) c.if-called.false)) c.transform_member_expression_for_super.ensures
+    named (call_rows c.args.rows.now c.args.names.now c.args.text.now c.args.made.now c.args.walk c.args.plan c.requires.row_pre.formed c.if-plan.false c.requires.first_value _ _ _ (as_called (ap op_of c.in-Call.is) c.if-called.false)) c.transform_member_expression_for_super.ensures

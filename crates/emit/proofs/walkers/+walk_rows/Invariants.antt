@@ -21,6 +21,7 @@ use Rattle.emit.proofs.Dressing.{body-room, inner_room, dressed_written}
 use Rattle.emit.proofs.Lists.{Turning, row_room, row-fewer, turn_on, turn-less, turned}
 use borrow.Author.Rules.{rules}
 use Prim.Native.Nat.{ℕ, ◌+◌, ◌*◌, ◌-◌, ◌<◌}
+use Rattle.std.proofs.lemmas.Bool.{not-true, not-false}
 use Rattle.emit.proofs.walkers.+walk_rows.Given as goal
 
 -- abbrev μ-around : Measures 5 around-kinds.ps ℕ
@@ -187,7 +188,7 @@ use Rattle.emit.proofs.walkers.+walk_rows.Given as goal
 
 abbrev pub invariant-list-loop-i : goal.invariant-list-loop-i
 invariant-list-loop-i l =
-    Turning l.rows l.names l.text l.made l.walk l.more l.initial.state (place_of l.initial.q) (place_of l.initial.out) l.initial.i l.bind l.at l.end l.i (place_of l.q) l.state l.out l.next
+    Turning l.rows l.names l.text l.made l.walk l.bind l.initial.state (place_of l.initial.q) (place_of l.more) l.initial.i l.end l.initial.out l.at l.i (place_of l.q) l.state l.out l.next
 
 abbrev pub decreases-list-loop-i : goal.decreases-list-loop-i
-decreases-list-loop-i l = l.bind - l.i
+decreases-list-loop-i l = l.end - l.i

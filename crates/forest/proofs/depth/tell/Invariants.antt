@@ -11,7 +11,7 @@ use native.Mathlib.Omega.{arith}
 use Rattle.forest.proofs.depth.tell.Given as goal
 
 abbrev pub invariant-loop-c : goal.invariant-loop-c
-invariant-loop-c l = (pos : ℕ) × Telling (words l.s) (to_all l.c0) l.initial.depth (length l.d) l.e l.d l.depth l.c pos
+invariant-loop-c l = (pos : ℕ) × Telling (words l.s) (to_all l.d) l.e (length l.initial.depth) l.c0 l.initial.depth l.depth l.c pos
 
 abbrev pub decreases-loop-c : goal.decreases-loop-c
-decreases-loop-c l = l.initial.depth - l.c
+decreases-loop-c l = l.e - l.c

@@ -15,7 +15,7 @@ use native.Mathlib.Omega.{arith}
 use Rattle.forest.proofs.faults.mark_children.Given as goal
 
 abbrev pub invariant-loop-c : goal.invariant-loop-c
-invariant-loop-c l = Telling (words l.s) (says (words l.s) l.a l.c0 l.later) l.later (length l.k) l.e l.k l.marks l.c l.pos × ((l.pos ≤ l.c) × ((l.place ≡ place_of l.a l.c0 l.pos) × (l.place < 16)))
+invariant-loop-c l = Telling (words l.s) (says (words l.s) l.k l.a l.e) l.e (length l.initial.marks) l.c0 l.initial.marks l.marks l.c l.pos × ((l.pos ≤ l.c) × ((l.place ≡ place_of l.k l.a l.pos) × (l.place < 16)))
 
 abbrev pub decreases-loop-c : goal.decreases-loop-c
-decreases-loop-c l = l.later - l.c
+decreases-loop-c l = l.e - l.c

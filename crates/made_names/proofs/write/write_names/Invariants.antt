@@ -11,7 +11,7 @@ use Rattle.made_names.proofs.write.write_names.Given as goal
 
 abbrev pub invariant-loop-k : goal.invariant-loop-k
 invariant-loop-k l =
-    Writing l.bindings l.names l.text l.numbers l.named l.out_pairs l.count l.out_text l.at l.k
+    Writing l.bindings l.names l.text l.numbers l.initial.out_pairs l.out_pairs l.initial.out_text l.out_text l.at l.k
 
 abbrev pub decreases-loop-k : goal.decreases-loop-k
 decreases-loop-k l =

@@ -12,7 +12,7 @@ use Rattle.refusals.proofs.Stands.{then-more}
 use Rattle.refusals.proofs.standing.tell.Given as goal
 
 abbrev pub invariant-loop-c : goal.invariant-loop-c
-invariant-loop-c l = (pos : ℕ) × (Telling (words l.rows) (first_then l.more l.c0) l.initial.told (length l.one) l.e l.one l.told l.c pos × (first_then l.more l.c0 pos l.c ≡ l.value))
+invariant-loop-c l = (pos : ℕ) × (Telling (words l.rows) (first_then l.one l.more) l.e (length l.initial.told) l.c0 l.initial.told l.told l.c pos × (first_then l.one l.more pos l.c ≡ l.value))
 
 abbrev pub decreases-loop-c : goal.decreases-loop-c
-decreases-loop-c l = l.initial.told - l.c
+decreases-loop-c l = l.e - l.c

@@ -5,7 +5,7 @@ use Rattle.walks.proofs.Copying.{Copies, copies_start, copies-next, copies-end}
 use Rattle.walks.proofs.copy.copy_rows.Given as goal
 
 abbrev pub invariant-loop-i : goal.invariant-loop-i
-invariant-loop-i l = Copies l.rows l.n l.out l.i
+invariant-loop-i l = Copies l.rows l.initial.out l.out l.i
 
 abbrev pub decreases-loop-i : goal.decreases-loop-i
-decreases-loop-i l = l.initial.out - l.i
+decreases-loop-i l = l.n - l.i

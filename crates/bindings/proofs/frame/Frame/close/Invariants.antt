@@ -13,7 +13,7 @@ use Rattle.bindings.specs.Filed.{behind}
 use Rattle.bindings.proofs.frame.Frame.close.Given as goal
 
 abbrev pub invariant-loop-b : goal.invariant-loop-b
-invariant-loop-b l = (Closing l.cap l.row l.initial.count l.initial.made l.made l.count l.b) × (behind l.row l.made ≡ behind l.row l.cap)
+invariant-loop-b l = (Closing l.initial.made l.cap l.initial.count l.row l.made l.count l.b) × (behind l.cap l.made ≡ behind l.cap l.initial.made)
 
 abbrev pub decreases-loop-b : goal.decreases-loop-b
 decreases-loop-b l = cond (eqb l.b 0) 0 (l.initial.count + 1 - l.b)
