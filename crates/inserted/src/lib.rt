@@ -12,7 +12,7 @@ ghost use Rattle.inserted.specs.Insertions.{param_if, params_row, body_row, acce
 ghost use Rattle.output.specs.Held.{grown};
 
 use grammar::kinds;
-use output::writer::{Writer, append_nested, close, finish, new, put};
+use output::writer::{Writer, append_nested, finish, new};
 use output::{append, patch_end};
 
 const DECLARATOR: u32 = kinds::DECLARATOR as u32;
@@ -154,22 +154,12 @@ pub fn accessor(
 }
 
 // The same behind what a writer has put.
-fn accessor_behind<'a>(
-    w: Writer<'a>,
-    usage: u32,
-    property: u32,
-    prop: u32,
-    value: u32,
-) -> Writer<'a>
-    requires { w.at + size (accessor_of usage property prop value) < 2 ^ 32 }
-    ensures { result ≡ grown w.entry (accessor_of usage property prop value) }
+fn accessor_behind(w: &mut Writer<'_>, usage: u32, property: u32, prop: u32, value: u32)
+    requires { w.old.at + size (accessor_of usage property prop value) < 2 ^ 32 }
+    ensures same_reference { w.new.rows.ghost_name ≡ w.old.rows.ghost_name }
+    ensures forest { w.new ≡ grown w.old (accessor_of usage property prop value) }
 {
-    let at = w.at;
-    let next = accessor(&mut *w.rows, at, usage, property, prop, value);
-    Writer {
-        rows: w.rows,
-        at: next,
-    }
+    w.at = accessor(w.rows, w.at, usage, property, prop, value);
 }
 
 // The Declarator of accessor `b`, through one writer.
@@ -185,14 +175,9 @@ pub fn accessor_declarator(
     requires { at + size (accessor_decl b usage property prop value) < 2 ^ 32 }
     ensures { Done out.old at (accessor_decl b usage property prop value) result out.new }
 {
-    finish(close(
-        accessor_behind(
-            put(new(out, at), DECLARATOR, 1, b, 0),
-            usage,
-            property,
-            prop,
-            value,
-        ),
-        at,
-    ))
+    let mut w = new(out, at);
+    w.append(DECLARATOR, 1, b, 0);
+    accessor_behind(&mut w, usage, property, prop, value);
+    w.close(at);
+    finish(w)
 }

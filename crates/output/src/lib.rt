@@ -9,7 +9,7 @@ ghost use Rattle.std.specs.Prelude.{◌≡◌, ◌+◌, ◌≤◌, ◌<◌, ◌^
 ghost use Rattle.output.specs.Output.{set_end, Appended, Recorded};
 
 use names::words::put_word;
-use writer::{finish, new, put};
+use writer::{finish, new};
 
 // Row `at`, where it lies whole in the bytes; the answer is the next row's number.
 fn append_row(out: &mut [u8], at: usize, kind: u32, attr: u32, name: u32, end: u32) -> usize
@@ -32,7 +32,9 @@ pub fn append(out: &mut [u8], at: usize, kind: u32, attr: u32, name: u32, end: u
     requires { at < 2 ^ 32 }
     ensures { Appended out.old at kind attr name end result out.new }
 {
-    finish(put(new(out, at), kind, attr, name, end))
+    let mut w = new(out, at);
+    w.append(kind, attr, name, end);
+    finish(w)
 }
 
 // The end of row `at`, for a row whose children were written after it.

@@ -21,30 +21,42 @@ pub fn new<'a>(rows: &'a mut [u8], at: usize) -> Writer<'a>
     Writer { rows: rows, at: at }
 }
 
-// A row is appended, and the writer handed back.
-pub fn put<'a>(w: Writer<'a>, kind: u32, attr: u32, name: u32, end: u32) -> Writer<'a>
-    requires { w.at < 2 ^ 32 }
-    ensures { result ≡ rowed w.entry kind attr name end }
-{
-    let at = w.at;
-    let next = append_row(&mut *w.rows, at, kind, attr, name, end);
-    Writer {
-        rows: w.rows,
-        at: next,
+impl Writer<'_> {
+    // A row is appended.
+    pub fn append(&mut self, kind: u32, attr: u32, name: u32, end: u32)
+        requires { self.old.at < 2 ^ 32 }
+        ensures same_reference { self.new.rows.ghost_name ≡ self.old.rows.ghost_name }
+        ensures row { self.new ≡ rowed self.old kind attr name end }
+    {
+        self.at = append_row(self.rows, self.at, kind, attr, name, end);
+    }
+
+    // Row `row` ends where the writer stands: the rows put since are inside it.
+    pub fn close(&mut self, row: usize)
+        requires { (row < 2 ^ 32) × (self.old.at < 2 ^ 32) }
+        ensures same_reference { self.new.rows.ghost_name ≡ self.old.rows.ghost_name }
+        ensures end { self.new ≡ closed self.old row }
+    {
+        close_row(self.rows, row, self.at);
     }
 }
 
-// Row `row` ends where the writer stands: the rows put since are inside it.
-pub fn close<'a>(w: Writer<'a>, row: usize) -> Writer<'a>
+// A row is appended, and the writer handed back.
+pub fn put<'a>(mut w: Writer<'a>, kind: u32, attr: u32, name: u32, end: u32) -> Writer<'a>
+    requires { w.at < 2 ^ 32 }
+    ensures { result ≡ rowed w.entry kind attr name end }
+{
+    w.append(kind, attr, name, end);
+    w
+}
+
+// Row `row` ends where the writer stands, and the writer is handed back.
+pub fn close<'a>(mut w: Writer<'a>, row: usize) -> Writer<'a>
     requires { (row < 2 ^ 32) × (w.at < 2 ^ 32) }
     ensures { result ≡ closed w.entry row }
 {
-    let at = w.at;
-    close_row(&mut *w.rows, row, at);
-    Writer {
-        rows: w.rows,
-        at: at,
-    }
+    w.close(row);
+    w
 }
 
 // The number of the next row. The rows stay as they are.
@@ -70,14 +82,9 @@ pub fn append_nested(
     requires { end ≡ at + 2 }
     ensures { Done out.old at (node kind attr name (node in_kind in_attr in_name none none) none) result out.new }
 {
-    finish(close(
-        put(
-            put(new(out, at), kind, attr, name, 0),
-            in_kind,
-            in_attr,
-            in_name,
-            end,
-        ),
-        at,
-    ))
+    let mut w = new(out, at);
+    w.append(kind, attr, name, 0);
+    w.append(in_kind, in_attr, in_name, end);
+    w.close(at);
+    finish(w)
 }

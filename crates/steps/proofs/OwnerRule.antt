@@ -336,7 +336,7 @@ module _ (N : Names) (z : same_as N 0 0 ≡ true) (i : Rows) (W : Wf i) (Q : Cal
   unfolding D result inside reads count arrows_of arrow_here ranked here omitted own_one own_more
   kept = record {
     counted = ap (λ (x : ℕ). 1 + x + 0) (sym (top_count N bs A 0 0 0 refl _ ∙ count_same N bs A i _ _ _ _ _ 1 R));
-    async_arrows = ap (λ (l : List ℕ). l ++ []) (sym (top_arrows N bs A 0 0 0 refl (λ a. true) _ 1 ∙ arrows_same N bs A i _ _ _ _ _ 1 1 R));
+    async_arrows = ap (λ (l : List ℕ). l ++ []) (sym (top_arrows N bs A 0 0 0 refl _ (λ a. true) 1 ∙ arrows_same N bs A i _ _ _ _ _ 1 1 R));
     paired = rw (top-reads N bs A 0 0 0 refl _ 0 1) (paired_append pairs done);
   }
 

@@ -1,4 +1,5 @@
 -- `grammar::name_ok` meets its contract. Assumes nothing.
+use Rattle.grammar.specs.Kinds.{Declarator, Ident, Member, Function, Class, Other, Opaque, Arguments}
 use mathlib.Core.Path.{◌≡◌, refl, sym, ◌∙◌}
 use mathlib.Core.Bool.{Bool, true, false, not, ◌&&◌, ◌||◌}
 use Prim.Native.Nat.{ℕ, ◌≤◌}

@@ -8,20 +8,17 @@ use Rattle.inserted.proofs.accessor.Goals as goal
 
 pub params_row-mid-requires : goal.params_row-mid-requires
 params_row-mid-requires c =
-    let s = c.before in
-    let z = size-accessor s.args.usage s.args.property s.args.prop s.args.value in
+    let z = size-accessor c.args.usage c.args.property c.args.prop c.args.value in
     omega arith
 
 pub body_row-next-requires : goal.body_row-next-requires
 body_row-next-requires c =
-    let s = c.before in
-    let z = size-accessor s.args.usage s.args.property s.args.prop s.args.value in
+    let z = size-accessor c.args.usage c.args.property c.args.prop c.args.value in
     omega arith
 
 pub overflow_cast-next : goal.overflow_cast-next
 overflow_cast-next c =
-    let s = c.before in
-    let z = size-accessor s.args.usage s.args.property s.args.prop s.args.value in
+    let z = size-accessor c.args.usage c.args.property c.args.prop c.args.value in
     omega arith
 
 pub returns : goal.returns

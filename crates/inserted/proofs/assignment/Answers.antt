@@ -1,5 +1,6 @@
 -- `inserted::assignment` meets its contract. Assumes nothing.
 use native.Mathlib.Omega.{arith}
+use Rattle.grammar.specs.Kinds.{Target, Ident}
 use Rattle.steps.specs.AfterSuper.{assignment}
 use Rattle.output.proofs.Writing.{nest, beside, leaf}
 use Rattle.output.proofs.Runs.{size-pair}

@@ -9,50 +9,42 @@ use Rattle.inserted.proofs.body_row.Goals as goal
 
 pub append-first-requires : goal.append-first-requires
 append-first-requires c =
-    let s = c.before in
-    let z = size-set s.args.property s.args.prop s.args.value c.if-usage-eq4.true in
+    let z = size-set c.args.property c.args.prop c.args.value c.if-usage-eq4.true in
     omega arith
 
 pub access_row-mid-requires : goal.access_row-mid-requires
 access_row-mid-requires c =
-    let s = c.before in
-    let z = size-set s.args.property s.args.prop s.args.value c.if-usage-eq4.true in
+    let z = size-set c.args.property c.args.prop c.args.value c.if-usage-eq4.true in
     omega arith
 
 pub overflow_cast-mid : goal.overflow_cast-mid
 overflow_cast-mid c =
-    let s = c.before in
-    let z = size-set s.args.property s.args.prop s.args.value c.if-usage-eq4.true in
+    let z = size-set c.args.property c.args.prop c.args.value c.if-usage-eq4.true in
     omega arith
 
 pub patch_end-requires : goal.patch_end-requires
 patch_end-requires c =
-    let s = c.before in
-    let z = size-set s.args.property s.args.prop s.args.value c.if-usage-eq4.true in
+    let z = size-set c.args.property c.args.prop c.args.value c.if-usage-eq4.true in
     omega arith
 
 pub overflow_add-mid : goal.overflow_add-mid
 overflow_add-mid c =
-    let s = c.before in
-    let z = size-set s.args.property s.args.prop s.args.value c.if-usage-eq4.true in
+    let z = size-set c.args.property c.args.prop c.args.value c.if-usage-eq4.true in
     omega arith
 
 pub overflow_cast-mid-then-usage-eq4 : goal.overflow_cast-mid-then-usage-eq4
 overflow_cast-mid-then-usage-eq4 c =
-    let s = c.before in
-    let z = size-set s.args.property s.args.prop s.args.value c.if-usage-eq4.true in
+    let z = size-set c.args.property c.args.prop c.args.value c.if-usage-eq4.true in
     omega arith
 
 pub append-next-requires : goal.append-next-requires
 append-next-requires c =
-    let s = c.before in
-    let z = size-set s.args.property s.args.prop s.args.value c.if-usage-eq4.true in
+    let z = size-set c.args.property c.args.prop c.args.value c.if-usage-eq4.true in
     omega arith
 
 pub overflow_cast-next : goal.overflow_cast-next
 overflow_cast-next c =
-    let s = c.before in
-    let z = size-set s.args.property s.args.prop s.args.value c.if-usage-eq4.true in
+    let z = size-set c.args.property c.args.prop c.args.value c.if-usage-eq4.true in
     omega arith
 
 pub returns-then-usage-eq4 : goal.returns-then-usage-eq4
@@ -64,8 +56,7 @@ returns-then-usage-eq4 c =
 
 pub access_row-requires : goal.access_row-requires
 access_row-requires c =
-    let s = c.before in
-    let z = ap size (body_get s.args.property s.args.prop s.args.value c.if-usage-eq4.false) in
+    let z = ap size (body_get c.args.property c.args.prop c.args.value c.if-usage-eq4.false) in
     omega arith
 
 pub returns : goal.returns

@@ -8,20 +8,17 @@ use Rattle.inserted.proofs.params_row.Goals as goal
 
 pub param_if-mid-requires : goal.param_if-mid-requires
 param_if-mid-requires c =
-    let s = c.before in
-    let z = size_params s.args.usage s.args.property s.args.prop s.args.value in
+    let z = size_params c.args.usage c.args.property c.args.prop c.args.value in
     omega arith
 
 pub param_if-next-requires : goal.param_if-next-requires
 param_if-next-requires c =
-    let s = c.before in
-    let z = size_params s.args.usage s.args.property s.args.prop s.args.value in
+    let z = size_params c.args.usage c.args.property c.args.prop c.args.value in
     omega arith
 
 pub overflow_cast-next : goal.overflow_cast-next
 overflow_cast-next c =
-    let s = c.before in
-    let z = size_params s.args.usage s.args.property s.args.prop s.args.value in
+    let z = size_params c.args.usage c.args.property c.args.prop c.args.value in
     omega arith
 
 pub returns : goal.returns

@@ -7,10 +7,8 @@ use Rattle.output.proofs.append_row.Goals as goal
 
 pub returns-then-b-out : goal.returns-then-b-out
 returns-then-b-out c =
-    let s = c.before in
-    record { next = refl; wrote = cc (put_in s.args.out.now s.args.at s.args.kind s.args.attr s.args.name s.args.end (omega arith)) }
+    record { next = refl; wrote = cc (put_in c.args.out.now c.args.at c.args.kind c.args.attr c.args.name c.args.end (omega arith)) }
 
 pub returns-else-b-out : goal.returns-else-b-out
 returns-else-b-out c =
-    let s = c.before in
-    record { next = refl; wrote = sym (put_out s.args.out.now s.args.at s.args.kind s.args.attr s.args.name s.args.end c.if-b-out.false) }
+    record { next = refl; wrote = sym (put_out c.args.out.now c.args.at c.args.kind c.args.attr c.args.name c.args.end c.if-b-out.false) }

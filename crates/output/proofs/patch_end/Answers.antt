@@ -7,10 +7,8 @@ use Rattle.output.proofs.patch_end.Goals as goal
 
 pub returns-then-b-out : goal.returns-then-b-out
 returns-then-b-out c =
-    let s = c.before in
-    cc (end_in s.args.out.now s.args.at s.args.end (omega arith))
+    cc (end_in c.args.out.now c.args.at c.args.end (omega arith))
 
 pub returns-else-b-out : goal.returns-else-b-out
 returns-else-b-out c =
-    let s = c.before in
-    sym (end_out s.args.out.now s.args.at s.args.end c.if-b-out.false)
+    sym (end_out c.args.out.now c.args.at c.args.end c.if-b-out.false)

@@ -7,10 +7,8 @@ use Rattle.output.proofs.put_record.Goals as goal
 
 pub returns-then-first-out : goal.returns-then-first-out
 returns-then-first-out c =
-    let s = c.before in
-    record { next = refl; wrote = cc (record_in s.args.out.now s.args.at s.args.a s.args.b s.args.c (omega arith)) }
+    record { next = refl; wrote = cc (record_in c.args.out.now c.args.at c.args.a c.args.b c.args.c (omega arith)) }
 
 pub returns-else-first-out : goal.returns-else-first-out
 returns-else-first-out c =
-    let s = c.before in
-    record { next = refl; wrote = sym (record_out s.args.out.now s.args.at s.args.a s.args.b s.args.c c.if-first-out.false) }
+    record { next = refl; wrote = sym (record_out c.args.out.now c.args.at c.args.a c.args.b c.args.c c.if-first-out.false) }

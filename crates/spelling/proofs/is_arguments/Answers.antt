@@ -4,16 +4,15 @@ use borrow.Author.Tests.{not-true, not-false}
 use Rattle.names.specs.Names.{arguments_bytes, is_arguments}
 use Rattle.spelling.proofs.Bytes.{not_arguments}
 use borrow.Author.Rules.{rules}
-use Rattle.std.proofs.lemmas.Bool.{not-true, not-false}
 use Rattle.spelling.proofs.is_arguments.Goals as goal
 
 pub returns-then-not-is_name : goal.returns-then-not-is_name
-returns-then-not-is_name c = not_arguments _ _ _ (sym c.is_name.ensures ∙ not-true _ (not-true _ c.if-not-is_name.true))
+returns-then-not-is_name c = not_arguments _ _ _ (sym c.is_name.ensures ∙ c.if-not-is_name.true)
 
 pub is_spelled-requires : goal.is_spelled-requires
 is_spelled-requires c = record {
   given_names = c.requires;
-  k_value = sym c.is_name.ensures ∙ not-false _ (not-false _ c.if-not-is_name.false);
+  k_value = sym c.is_name.ensures ∙ c.if-not-is_name.false;
 }
 
 pub returns : goal.returns

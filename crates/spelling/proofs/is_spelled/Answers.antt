@@ -26,14 +26,12 @@ cell-requires c = let s = is_some c.args.names.now c.args.k c.requires.k_value i
 pub slice_bounds-same_bytes-end : goal.slice_bounds-same_bytes-end
 slice_bounds-same_bytes-end c =
     let a = c.args in
-    let P = (c.requires.given_names, c.requires.k_value) in
-    let g = good {k = a.k} P.0 P.1 in
+    let g = good {k = a.k} c.requires.given_names c.requires.k_value in
     omega (arith, g.within, c.cell-start.ensures.0, c.cell.ensures.0)
 
 pub returns : goal.returns
 returns c =
     let a = c.args in
-    let P = (c.requires.given_names, c.requires.k_value) in
     let cell = c.cell-start in
     let cell2 = c.cell in
-    c.same_bytes.ensures ∙ ap (λ (l : List ℕ). same_bytes l a.x.now) (its_bytes _ _ _ _ _ _ P.1 cell.ensures.0 cell2.ensures.0 refl)
+    c.same_bytes.ensures ∙ ap (λ (l : List ℕ). same_bytes l a.x.now) (its_bytes _ _ _ _ _ _ c.requires.k_value cell.ensures.0 cell2.ensures.0 refl)

@@ -37,7 +37,7 @@ pub loop-i-preserved : goal.loop-i-preserved
 loop-i-preserved c =
     let d = get_or c.loop-i.depth c.loop-i.i 0 in (
       seek-next _ _ _ _ c.loop-i.invariant.0 (omega arith) (ap (ltb c.args.most) (is-depth _ c.loop-i.depth _ (c.loop-i.invariant.1.1 c.loop-i.i)) ∙ le-ltb _ _ c.if-most-d.false),
-      (omega arith, told-on _ deeper 0 c.loop-i.i d _ (to_all (d + 1)) c.loop-i.depth c.tell.new.1.0 c.loop-i.invariant.1.1 refl c.cell-e.ensures.0 refl c.tell.ensures),
+      (omega arith, told-on _ deeper 0 c.loop-i.i d _ (to_all (d + 1)) c.loop-i.depth c.tell.new.depth c.loop-i.invariant.1.1 refl c.cell-e.ensures.0 refl c.tell.ensures),
     )
 
 pub shape_of-depth : goal.shape_of-depth

@@ -15,12 +15,10 @@ loop-i-init c = seek-start _ _ _
 
 pub returns-then-made_row : goal.returns-then-made_row
 unfolding first_made
-returns-then-made_row c =
-    let made = c.before in let at = made.before.before.before.before in seek_found _ _ _ _ at.loop.invariant (omega arith) (made-same (words at.before.before.args.s.now) at.loop.i _ _ _ made.before.before.cell.ensures.0 made.before.cell2.ensures.0 made.Made-row.ensures ∙ c.if-made_row.true)
+returns-then-made_row c = seek_found _ _ _ _ c.loop-i.invariant (omega arith) (made-same (words c.args.s.now) c.loop-i.i _ _ _ c.cell-k.ensures.0 c.cell-a.ensures.0 c.made_row.ensures ∙ c.if-made_row.true)
 
 pub loop-i-preserved : goal.loop-i-preserved
-loop-i-preserved c =
-    let made = c.before in let at = made.before.before.before.before in seek-next _ _ _ _ at.loop.invariant (omega arith) (made-same (words at.before.before.args.s.now) at.loop.i _ _ _ made.before.before.cell.ensures.0 made.before.cell2.ensures.0 made.Made-row.ensures ∙ c.if-made_row.false)
+loop-i-preserved c = seek-next _ _ _ _ c.loop-i.invariant (omega arith) (made-same (words c.args.s.now) c.loop-i.i _ _ _ c.cell-k.ensures.0 c.cell-a.ensures.0 c.made_row.ensures ∙ c.if-made_row.false)
 
 pub returns : goal.returns
 unfolding first_made

@@ -7,10 +7,9 @@ use Rattle.bindings.proofs.frame.Frame.accessor.Goals as goal
 
 pub bucket-h-requires : goal.bucket-h-requires
 bucket-h-requires c =
-    let all = let P = (c.requires.store, (c.requires.given_names, (c.requires.u_value, c.requires.filed))) in
-    let k = P.0.0.room in
-    let p = P.0.1 in
-    (P.1.0, (omega arith, (omega arith, accessor-small c.args.u P.1.1.0))) in record {
+    let all = let k = c.requires.store.0.room in
+    let p = c.requires.store.1 in
+    (c.requires.given_names, (omega arith, (omega arith, accessor-small c.args.u c.requires.u_value))) in record {
       given_names = all.0;
       cap_nonzero = all.1;
     }
@@ -27,17 +26,15 @@ entry-b-requires c = let P = c.requires.store in let k = P.0.room in let l = P.0
 pub loop-b-init : goal.loop-b-init
 loop-b-init c =
     let a = c.args in
-    let P = (c.requires.store, (c.requires.given_names, (c.requires.u_value, c.requires.filed))) in
-    looking_start a.names.now a.text.now a.made.now a.cap a.self.count a.u a.self.row a.x P.1.1.1 c.bucket-h.result c.bucket-h.ensures.0 c.bucket-h.ensures.1 _ c.entry-b.ensures
+    looking_start a.names.now a.text.now a.made.now a.cap a.self.count a.u a.self.row a.x c.requires.filed c.bucket-h.result c.bucket-h.ensures.0 c.bucket-h.ensures.1 _ c.entry-b.ensures
 
 pub is_it-it-requires : goal.is_it-it-requires
 is_it-it-requires c = let all = let a = c.args in
-    let P = (c.requires.store, (c.requires.given_names, (c.requires.u_value, c.requires.filed))) in
-    let k = P.0.0.room in
-    let l = P.0.0.long in
-    let p = P.0.1 in
-    let fl = looking-low a.names.now a.text.now a.made.now a.cap a.self.count a.u a.self.row a.x P.1.1.1 c.loop-b.invariant in
-    ((omega arith, omega arith), P.1.0) in record {
+    let k = c.requires.store.0.room in
+    let l = c.requires.store.0.long in
+    let p = c.requires.store.1 in
+    let fl = looking-low a.names.now a.text.now a.made.now a.cap a.self.count a.u a.self.row a.x c.requires.filed c.loop-b.invariant in
+    ((omega arith, omega arith), c.requires.given_names) in record {
       b_in_bounds = all.0;
       given_names = all.1;
     }
@@ -48,50 +45,44 @@ overflow_mul-cap-in-loop-b c = let P = c.requires.store in let k = P.0.room in l
 pub overflow_add-cap-in-loop-b : goal.overflow_add-cap-in-loop-b
 overflow_add-cap-in-loop-b c =
     let a = c.args in
-    let P = (c.requires.store, (c.requires.given_names, (c.requires.u_value, c.requires.filed))) in
-    let k = P.0.0.room in
-    let l = P.0.0.long in
-    let p = P.0.1 in
-    let fl = looking-low a.names.now a.text.now a.made.now a.cap a.self.count a.u a.self.row a.x P.1.1.1 c.loop-b.invariant in
+    let k = c.requires.store.0.room in
+    let l = c.requires.store.0.long in
+    let p = c.requires.store.1 in
+    let fl = looking-low a.names.now a.text.now a.made.now a.cap a.self.count a.u a.self.row a.x c.requires.filed c.loop-b.invariant in
     omega arith
 
 pub overflow_add-cap-in-loop-b-2 : goal.overflow_add-cap-in-loop-b-2
 overflow_add-cap-in-loop-b-2 c =
     let a = c.args in
-    let P = (c.requires.store, (c.requires.given_names, (c.requires.u_value, c.requires.filed))) in
-    let k = P.0.0.room in
-    let l = P.0.0.long in
-    let p = P.0.1 in
-    let fl = looking-low a.names.now a.text.now a.made.now a.cap a.self.count a.u a.self.row a.x P.1.1.1 c.loop-b.invariant in
+    let k = c.requires.store.0.room in
+    let l = c.requires.store.0.long in
+    let p = c.requires.store.1 in
+    let fl = looking-low a.names.now a.text.now a.made.now a.cap a.self.count a.u a.self.row a.x c.requires.filed c.loop-b.invariant in
     omega arith
 
 pub entry-b-requires-in-loop-b : goal.entry-b-requires-in-loop-b
 entry-b-requires-in-loop-b c =
     let a = c.args in
-    let P = (c.requires.store, (c.requires.given_names, (c.requires.u_value, c.requires.filed))) in
-    let k = P.0.0.room in
-    let l = P.0.0.long in
-    let p = P.0.1 in
-    let fl = looking-low a.names.now a.text.now a.made.now a.cap a.self.count a.u a.self.row a.x P.1.1.1 c.loop-b.invariant in
+    let k = c.requires.store.0.room in
+    let l = c.requires.store.0.long in
+    let p = c.requires.store.1 in
+    let fl = looking-low a.names.now a.text.now a.made.now a.cap a.self.count a.u a.self.row a.x c.requires.filed c.loop-b.invariant in
     omega arith
 
 pub loop-b-smaller : goal.loop-b-smaller
 loop-b-smaller c =
     let a = c.args in
-    let P = (c.requires.store, (c.requires.given_names, (c.requires.u_value, c.requires.filed))) in
-    looking-less a.names.now a.text.now a.made.now a.cap a.self.count a.u a.self.row a.x P.1.1.1 c.loop-b.invariant c.loop-b-test.true _ c.entry-b-in-loop-b.ensures
+    looking-less a.names.now a.text.now a.made.now a.cap a.self.count a.u a.self.row a.x c.requires.filed c.loop-b.invariant c.loop-b-test.true _ c.entry-b-in-loop-b.ensures
 
 pub loop-b-preserved : goal.loop-b-preserved
 loop-b-preserved c =
     let a = c.args in
-    let P = (c.requires.store, (c.requires.given_names, (c.requires.u_value, c.requires.filed))) in
-    looking-next a.names.now a.text.now a.made.now a.cap a.self.count a.u a.self.row a.x P.1.1.1 c.loop-b.invariant
-    c.loop-b-test.true _ c.entry-b-in-loop-b.ensures P.1.1.0 _ c.is_it-it.ensures _ c.pick-found.ensures
+    looking-next a.names.now a.text.now a.made.now a.cap a.self.count a.u a.self.row a.x c.requires.filed c.loop-b.invariant
+    c.loop-b-test.true _ c.entry-b-in-loop-b.ensures c.requires.u_value _ c.is_it-it.ensures _ c.pick-found.ensures
 
 pub returns : goal.returns
 returns c =
     let a = c.args in
-    let P = (c.requires.store, (c.requires.given_names, (c.requires.u_value, c.requires.filed))) in
-    let k = P.0.0.room in
-    let fl = found_low a.names.now a.text.now a.made.now a.cap a.self.count a.u a.self.row a.x P.1.1.1 c.loop-b.invariant in
-    (looking-done a.names.now a.text.now a.made.now a.cap a.self.count a.u a.self.row a.x P.1.1.1 c.loop-b.invariant P.1.1.0 c.loop-b-test.false, omega arith)
+    let k = c.requires.store.0.room in
+    let fl = found_low a.names.now a.text.now a.made.now a.cap a.self.count a.u a.self.row a.x c.requires.filed c.loop-b.invariant in
+    (looking-done a.names.now a.text.now a.made.now a.cap a.self.count a.u a.self.row a.x c.requires.filed c.loop-b.invariant c.requires.u_value c.loop-b-test.false, omega arith)
