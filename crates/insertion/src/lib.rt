@@ -12,7 +12,7 @@ ghost use Rattle.insertion.specs.Declarations.{Held, frame_accessors, frame_decl
 
 use bindings::entry;
 use grammar::kinds;
-use output::writer::{Writer, close, finish, new, put};
+use output::writer::{Writer, finish, new};
 
 const VAR: u32 = kinds::VAR as u32;
 
@@ -100,24 +100,20 @@ fn declarators(
 }
 
 // The same behind what a writer has put.
-fn declare<'a, 'm>(
-    w: Writer<'a>,
-    made: &'m [u32],
+fn declare(
+    w: &mut Writer<'_>,
+    made: &[u32],
     cap: usize,
     count: usize,
     frame: usize,
     guarded: bool,
     late: bool,
-) -> Writer<'a>
-    requires { Held made.now cap count frame × (w.at + size (frame_decls made.now cap count frame guarded late) < 2 ^ 32) }
-    ensures { result ≡ grown w.entry (frame_decls made.now cap count frame guarded late) }
+)
+    requires { Held made.now cap count frame × (w.old.at + size (frame_decls made.now cap count frame guarded late) < 2 ^ 32) }
+    ensures same_reference { w.new.rows.ghost_name ≡ w.old.rows.ghost_name }
+    ensures forest { w.new ≡ grown w.old (frame_decls made.now cap count frame guarded late) }
 {
-    let at = w.at;
-    let next = declarators(made, cap, count, frame, guarded, late, &mut *w.rows, at);
-    Writer {
-        rows: w.rows,
-        at: next,
-    }
+    w.at = declarators(made, cap, count, frame, guarded, late, w.rows, w.at);
 }
 
 // The Var with its Declarators, through one writer.
@@ -134,18 +130,11 @@ fn variable_statement(
     requires { Held made.now cap count frame × (at + 1 + size (frame_decls made.now cap count frame guarded late) < 2 ^ 32) }
     ensures { Done out.old at (node Var 0 0 (frame_decls made.now cap count frame guarded late) none) result out.new }
 {
-    finish(close(
-        declare(
-            put(new(out, at), VAR, 0, 0, 0),
-            made,
-            cap,
-            count,
-            frame,
-            guarded,
-            late,
-        ),
-        at,
-    ))
+    let mut w = new(out, at);
+    w.append(VAR, 0, 0, 0);
+    declare(&mut w, made, cap, count, frame, guarded, late);
+    w.close(at);
+    finish(w)
 }
 
 // The Var that goes first in a frame; nothing where the frame has no capture and no accessor. The

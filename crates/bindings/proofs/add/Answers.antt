@@ -14,11 +14,11 @@ use borrow.Author.Rules.{rules}
 use Rattle.bindings.proofs.add.Goals as goal
 
 pub chain-requires : goal.chain-requires
-chain-requires c = let all = let R = c.requires.room in
+chain-requires c = let R = c.requires.room in
     let long = ap length c.push.ensures ∙ pushed_long c.args.made.now c.args.cap (c.args.count + 1) c.args.u c.args.x c.args.f R.store.long R.more in
-    ((long, (R.more, (R.row_low, R.cap_low))), subst (λ (l : List ℕ). get_or l (last_table c.args.param c.args.cap c.args.f) 0 < c.args.cap) (sym c.push.ensures) (add_low c.args.made.now c.args.cap c.args.count c.args.u c.args.x c.args.f c.requires.room.store c.requires.room.more c.requires.room.row_low c.args.param c.requires.u_value)) in record {
-      made_len = all.0;
-      f_bound = all.1;
+    record {
+      made_len = (long, (R.more, (R.row_low, R.cap_low)));
+      f_bound = subst (λ (l : List ℕ). get_or l (last_table c.args.param c.args.cap c.args.f) 0 < c.args.cap) (sym c.push.ensures) (add_low c.args.made.now c.args.cap c.args.count c.args.u c.args.x c.args.f c.requires.room.store c.requires.room.more c.requires.room.row_low c.args.param c.requires.u_value);
     }
 
 pub returns : goal.returns

@@ -7,11 +7,11 @@ use Rattle.bindings.proofs.frame.Frame.accessor.Goals as goal
 
 pub bucket-h-requires : goal.bucket-h-requires
 bucket-h-requires c =
-    let all = let k = c.requires.store.0.room in
+    let k = c.requires.store.0.room in
     let p = c.requires.store.1 in
-    (c.requires.given_names, (omega arith, (omega arith, accessor-small c.args.u c.requires.u_value))) in record {
-      given_names = all.0;
-      cap_nonzero = all.1;
+    record {
+      given_names = c.requires.given_names;
+      cap_nonzero = (omega arith, (omega arith, accessor-small c.args.u c.requires.u_value));
     }
 
 pub overflow_mul-cap : goal.overflow_mul-cap
@@ -29,14 +29,14 @@ loop-b-init c =
     looking_start a.names.now a.text.now a.made.now a.cap a.self.count a.u a.self.row a.x c.requires.filed c.bucket-h.result c.bucket-h.ensures.0 c.bucket-h.ensures.1 _ c.entry-b.ensures
 
 pub is_it-it-requires : goal.is_it-it-requires
-is_it-it-requires c = let all = let a = c.args in
+is_it-it-requires c = let a = c.args in
     let k = c.requires.store.0.room in
     let l = c.requires.store.0.long in
     let p = c.requires.store.1 in
     let fl = looking-low a.names.now a.text.now a.made.now a.cap a.self.count a.u a.self.row a.x c.requires.filed c.loop-b.invariant in
-    ((omega arith, omega arith), c.requires.given_names) in record {
-      b_in_bounds = all.0;
-      given_names = all.1;
+    record {
+      b_in_bounds = (omega arith, omega arith);
+      given_names = c.requires.given_names;
     }
 
 pub overflow_mul-cap-in-loop-b : goal.overflow_mul-cap-in-loop-b

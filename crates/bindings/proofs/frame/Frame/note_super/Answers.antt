@@ -21,11 +21,11 @@ returns-then-accessor-ne0 c = record {
 }
 
 pub add-b-requires : goal.add-b-requires
-add-b-requires c = let all = let A = c.requires.asked in
+add-b-requires c = let A = c.requires.asked in
     let more = subst (λ (l : List Binding). length l < c.args.cap) (note_new (names_of c.args.names.now c.args.text.now) c.args.u c.args.self.row c.args.x (binds c.args.made.now c.args.cap c.args.self.count) _ c.accessor.ensures.0 c.if-accessor-ne0.false) A.room in
-    (record { store = A.store; row_low = A.row_low; cap_low = A.cap_low; more = one_more c.args.made.now c.args.cap c.args.self.count _ more }, c.requires.u_value) in record {
-      room = all.0;
-      u_value = all.1;
+    record {
+      room = record { store = A.store; row_low = A.row_low; cap_low = A.cap_low; more = one_more c.args.made.now c.args.cap c.args.self.count _ more };
+      u_value = c.requires.u_value;
     }
 
 pub bucket-h-requires : goal.bucket-h-requires
