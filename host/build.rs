@@ -1,4 +1,4 @@
-//! Says where the archive is: in THAWCOPPER_LIB_DIR, or where `rt staticlib thawcopper` writes it.
+//! Says where the archive is: in THAWCOPPER_LIB_DIR, or where `tools/build.sh archive` writes it.
 
 use std::env;
 use std::path::PathBuf;
@@ -13,7 +13,7 @@ fn main() {
     println!("cargo:rerun-if-changed={}", archive.display());
     if !archive.exists() {
         panic!(
-            "{} is not there: run `rt staticlib thawcopper` in the root of the repository, or set THAWCOPPER_LIB_DIR",
+            "{} is not there: run `bash tools/build.sh archive` in the root of the repository, or set THAWCOPPER_LIB_DIR",
             archive.display()
         );
     }

@@ -18,14 +18,14 @@ import sys
 
 # The first is printed with all that it cites, each later one with what those before it do not cite.
 ENTRIES = [
-    ("crates/thawcopper/src/lib.rt", "thawcopper_convert"),
-    ("crates/thawcopper/src/lib.rt", "thawcopper_convert_with"),
+    ("crates/thawcopper_c/src/lib.rt", "thawcopper_convert"),
+    ("crates/thawcopper_c/src/lib.rt", "thawcopper_convert_with"),
     ("crates/converter/src/lib.rt", "convert"),
-    ("crates/thawcopper/src/lib.rt", "thawcopper_base_text"),
+    ("crates/thawcopper_c/src/lib.rt", "thawcopper_base_text"),
     ("crates/base_text/src/lib.rt", "base_text"),
-    ("crates/thawcopper/src/lib.rt", "thawcopper_make_names"),
+    ("crates/thawcopper_c/src/lib.rt", "thawcopper_make_names"),
     ("crates/made_names/src/lib.rt", "make_names"),
-    ("crates/thawcopper/src/lib.rt", "thawcopper_spelling"),
+    ("crates/thawcopper_c/src/lib.rt", "thawcopper_spelling"),
     ("crates/lookup/src/lib.rt", "spelling"),
     ("crates/rows/src/lib.rt", "check"),
     ("crates/convert/src/main.rt", "answer_text"),
@@ -35,8 +35,8 @@ BEGIN, END = "<!-- made by tools/believe.py -->\n", "<!-- end -->\n"
 
 ROOT = os.path.dirname(os.path.dirname(os.path.abspath(__file__)))
 SIGNS = {":", "=", "→", "λ", "_", "let", "in", "record", "where", "Type"}
-LANGUAGE = {"Unit", "tt", "⊥", "×", "now"}          # names of the kit that need no `use`
-LENT = {"entry", "exit"}                            # fields of the kit, of a parameter that is a reference
+LANGUAGE = {"Unit", "tt", "⊥", "×"}                 # names of the kit that need no `use`
+LENT = {"now", "old", "new"}                        # fields of the kit, of a parameter that is a reference
 OPEN, CLOSE = {"(", "{", "⌜"}, {")", "}", "⌝"}
 WORD = re.compile(r"\.?«[^»]*»|[(){}⌜⌝;]|[^\s(){}⌜⌝;«»]+")
 NUMBER = re.compile(r"0x[0-9A-Fa-f]+|\d+")
@@ -91,7 +91,7 @@ class Scope:
         self.path, self.names, self.modules = path, {}, {}
 
     def add(self, word, meaning):
-        for written in {word, word.strip("_")}:     # `_+_` is written `+` between its arguments
+        for written in {word, word.strip("◌")}:     # `◌+◌` is written `+` between its arguments
             self.names.setdefault(written, []).append(meaning)
 
     def use(self, line):
@@ -118,14 +118,15 @@ class Scope:
 
 
 def meaning_of(module, name, user):
-    if not module.startswith("Rattle"):
+    crate = (module.split(".") + [""])[1]
+    if not module.startswith("Rattle.") or not os.path.isdir(os.path.join(ROOT, "crates", crate)):
         return module, name
-    ours = re.fullmatch(r"Rattle·([^·.]+)(?:·specs)?\.specs\.(.+)", module)
+    ours = re.fullmatch(r"Rattle\.([^.]+)\.specs\.(.+)", module)
     if not ours:
         stop(user, module + " is no module of specs/")
     crate, path = ours.group(1), ours.group(2).split(".")
     if path[0] == "declared":                       # made of a struct or enum of the code
-        variant = path[-1] == "the-variants"
+        variant = path[-1] == "TheVariants"
         item = code_type(crate, path[1:-1] if variant else path[1:], user)
         if name in item.members if variant else name == item.name:
             return item, name
@@ -245,9 +246,14 @@ def cite(item, scope, words, bound):
         elif opener == "record" and after[:1] == ["="] and words[at - 1] in ("{", ";"):
             item.fields.add(word)
         elif word.startswith("."):
-            item.fields.add(word[1:])
+            item.fields.update(word[1:].split("."))
+        elif word.partition(".")[0] in now and word.rstrip(".").count("."):
+            item.fields.update(word.split(".")[1:])     # `x.f` of a name that is bound
         elif word.rstrip(".") not in now | SIGNS and not NUMBER.fullmatch(word):
             meant = scope.find(word)
+            if not meant and "." in word.rstrip("."):   # `x.f` of a definition
+                meant = scope.find(word.partition(".")[0])
+                item.fields.update(word.split(".")[1:] if meant else [])
             if not meant and word not in item.members:
                 item.stop("cannot tell what %s is" % word)
             item.cites += meant
@@ -275,12 +281,29 @@ def code_type(crate, path, user):
     stop(user, "no struct or enum %s in crates/%s/src" % ("::".join(path), crate))
 
 
+def used_paths(text):
+    """The paths of `a::{b, c::{d, e}}`, without blanks."""
+    head, brace, rest = text.partition("{")
+    if not brace:
+        return [text] if text else []
+    depth, parts = 0, [""]
+    for sign in rest[:rest.rindex("}")]:
+        depth += (sign == "{") - (sign == "}")
+        if sign == "," and depth == 0:
+            parts.append("")
+        else:
+            parts[-1] += sign
+    return [head + path for part in parts for path in used_paths(part)]
+
+
 def code_types(text, file):
     """The structs and enums that a signature, or the inside of one of them, names."""
     crate, stem = file.split("/", 3)[1::2]
     uses = {}
-    for used, other in re.findall(r"^(?:pub )?use ([\w:]+)(?: as (\w+))?;", text_of(file), re.M):
-        uses[other or used.split("::")[-1]] = used.split("::")
+    for used in re.findall(r"^(?:pub )?use ([^;]+);", text_of(file), re.M):
+        for one in used_paths("".join(re.sub(r" as ", "@", used).split())):
+            path, _, other = one.partition("@")
+            uses[other or path.split("::")[-1]] = path.split("::")
     found = []
     for name in re.findall(r"(?<![\w:])(?:\w+::)*[A-Z]\w*", text):
         path = name.split("::")
@@ -309,11 +332,12 @@ def entry(path, name):
     item.cites += code_types(params + " " + answer, path)
     bound = set(re.findall(r"(\w+)\s*:(?!:)", params))
     words = words_of(promise)
-    while words:
-        end = closing(words, 1)
-        if words[0] not in ("requires", "ensures") or end == 1:
+    while words:                                    # `ensures { .. }`, or with a name `ensures NAME { .. }`
+        start = 1 if words[1:2] == ["{"] else 2
+        end = closing(words, start)
+        if words[0] not in ("requires", "ensures") or words[start:start + 1] != ["{"]:
             item.stop("not understood: " + " ".join(words[:4]))
-        cite(item, scope, words[2:end], set(bound))
+        cite(item, scope, words[start + 1:end], bound | ({"result"} if words[0] == "ensures" else set()))
         words = words[end + 1:]
     item.lines = dict(enumerate(promise.split("\n")[:-1]))
     return item
@@ -337,9 +361,13 @@ def cited_by(start):
     return items - {start}, kit
 
 
+def crate_names():
+    return re.findall(r"^(\w+)[^:\n]*:", text_of("crates.txt"), re.M)
+
+
 def by_file(items):
     """The files of some items, each crate's in the order of its Lib.antt, with the lines and the names in each."""
-    crates = re.findall(r"^(\w+):", text_of("crates.txt"), re.M)
+    crates = crate_names()
 
     def place(path):
         _, crate, folder, name = path.split("/", 3)
@@ -370,7 +398,7 @@ def quoted(path, names):
 def made(entries):
     """The part of the page, for some entries."""
     whole = []
-    for crate in re.findall(r"^(\w+):", text_of("crates.txt"), re.M):
+    for crate in crate_names():
         for folder, _, names in os.walk(os.path.join(ROOT, "crates", crate, "specs")):
             for name in filter(lambda name: name.endswith(".antt"), names):
                 whole += specs(os.path.relpath(os.path.join(folder, name), ROOT).replace(os.sep, "/")).values()

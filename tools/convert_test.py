@@ -367,31 +367,37 @@ def crates_below(name):
 
 
 STUB = """#!/usr/bin/env bash
-[[ $* == "check convert" && -e crates.txt ]] || exit 9
-[[ -z $(cat) ]] || exit 8
-echo 'logic=proved'
-echo 'rt: names proved (unchanged since it was last proved)'
+[[ $* == run && $PWD == */crates/convert && -e ../../crates.txt ]] || exit 9
+[[ $(cat) == stored ]] || exit 8
+echo 'only=0 proved=0' >&2
+echo 'rt: chose --jobs 2 for names' >&2
+echo 'logic=proved functions=14' >&2
 sleep 0.4
-echo 'rt: grammar proved (12 s)'
+echo 'rt: chose --jobs 2 for grammar' >&2
+echo 'logic=proved functions=9' >&2
 sleep 0.4
 """
-BUILT = STUB + """echo 'rt: convert proved (3 s)'
-mkdir -p target/bin && cp '%s' target/bin/convert
-echo "rt: convert ran as nobody, and wrote what its file 'stdout' has (0 s)"
-echo 'rt: ok, 3 crates proved'
+BUILT = STUB + """echo 'rt: chose --jobs 2 for convert' >&2
+echo 'logic=proved functions=30' >&2
+mkdir -p out && cp '%s' out/convert
+echo 'rt: running out/convert; to give it other input, run that file yourself' >&2
+echo 'what the program writes'
 """ % PROGRAM
-BROKEN = STUB + """echo 'crates/rows/src/lib.rt:1:1: error'
-echo 'rt: rows NOT PROVED (exit 1, 2 s)'
-echo 'rt: FAILED: rows' >&2
+BROKEN = STUB + """echo 'rt: chose --jobs 2 for rows' >&2
+echo 'src/lib.rt:1:1: error' >&2
+echo 'logic=not-proved' >&2
+echo 'rt: the library rows did not build, so nothing above it was checked' >&2
 exit 1
 """
 
 
 def own_root(folder, stub):
     """A folder with ./convert and what it needs, and the path with that stub before all else."""
-    for file in ["convert", "crates.txt", "tools/sentence.awk"]:
+    for file in ["convert", "crates.txt", "tools/build.sh", "tools/sentence.awk"]:
         os.makedirs(os.path.dirname(os.path.join(folder, file)), exist_ok=True)
         shutil.copy(file, os.path.join(folder, file))
+    write(folder + "/crates/convert/src/main.rt", b"")
+    write(folder + "/crates/convert/stdin", b"stored\n")
     if stub is not None:
         write(folder + "/bin/rt", stub.encode(), 0o755)
     return dict(os.environ, PATH=folder + "/bin" + os.pathsep + os.environ["PATH"])
@@ -400,9 +406,8 @@ def own_root(folder, stub):
 def builds(folder):
     printed = run([PROGRAM], GOOD)[1]
     count = crates_below("convert")
-    start = "./convert: the program is not built yet: %d crates are proved first, which takes some 5 minutes on 2 cores\n" % count
-    told = ["./convert: 1 of %d: names proved (unchanged since it was last proved)\n" % count,
-            "./convert: 2 of %d: grammar proved (12 s)\n" % count]
+    start = "./convert: the program is not built yet: %d crates are proved first, which takes a while\n" % count
+    told = ["./convert: 1 of %d: names proved\n" % count, "./convert: 2 of %d: grammar proved\n" % count]
 
     root = folder + "/built"
     paths = own_root(root, BUILT)
@@ -414,22 +419,24 @@ def builds(folder):
             lines.append(line.decode())
             times.append(time.monotonic())
         check("a first build", (ran.stdout.read(), ran.wait()), (printed, 0))
-    check("a first build: what is told", lines, [start, *told, "./convert: 3 of %d: convert proved (3 s)\n" % count])
+    check("a first build: what is told", lines, [start, *told, "./convert: 3 of %d: convert proved\n" % count])
     check("a first build: it is told as it goes", len(times) == 4 and [times[2] - times[1] > 0.1, times[3] - times[2] > 0.1], [True, True])
     check("the second run", run([root + "/convert"], GOOD, env=paths), (0, printed, ""))
 
     root = folder + "/broken"
     paths = own_root(root, BROKEN)
-    log = "logic=proved\nrt: names proved (unchanged since it was last proved)\nrt: grammar proved (12 s)\n" \
-        "crates/rows/src/lib.rt:1:1: error\nrt: rows NOT PROVED (exit 1, 2 s)\nrt: FAILED: rows\n"
+    log = "only=0 proved=0\nrt: chose --jobs 2 for names\nlogic=proved functions=14\nrt: chose --jobs 2 for grammar\nlogic=proved functions=9\n" \
+        "rt: chose --jobs 2 for rows\nsrc/lib.rt:1:1: error\nlogic=not-proved\n" \
+        "rt: the library rows did not build, so nothing above it was checked\n"
     check("a build that fails", run([root + "/convert"], GOOD, env=paths), (
-        2, b"", start + "".join(told) + "./convert: 3 of %d: rows NOT PROVED (exit 1, 2 s)\n" % count + log
-        + "./convert: the program was not built: rt check convert ended with status 1\n"))
+        2, b"", start + "".join(told) + "./convert: 3 of %d: rows NOT PROVED\n" % count + log
+        + "./convert: the program was not built: tools/build.sh ended with status 1\n"))
 
     root = folder + "/nothing"
     paths = own_root(root, "#!/usr/bin/env bash\n")
     check("a build that writes no program", run([root + "/convert"], GOOD, env=paths),
-          (2, b"", start + "./convert: the program was not built: rt check convert ended with status 0\n"))
+          (2, b"", start + "build.sh: rt run made no crates/convert/out/convert\n"
+           "./convert: the program was not built: tools/build.sh ended with status 1\n"))
 
     root = folder + "/none"
     own_root(root, None)

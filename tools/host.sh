@@ -10,7 +10,7 @@
 #   host.sh bench names            made names and base text beside the reference
 #   host.sh bench profile SHAPE MODE    the library alone, for a profiler
 #
-# The archive is built with rt where it is missing, and for a benchmark. Cargo is used where it is there, without a registry; else rustc and
+# The archive is built by tools/build.sh where it is missing, and for a benchmark. Cargo is used where it is there, without a registry; else rustc and
 # rustdoc alone. HOST_NO_CARGO=1 takes the second way. A failure ends it with a status that is not 0.
 set -eu
 cd "$(dirname "$0")/.."
@@ -20,7 +20,7 @@ out=target/host
 sample=host/sample
 
 if [[ ! -e $archive/libthawcopper.a || ${1:-} == bench ]]; then
-  rt staticlib thawcopper >/dev/null
+  bash tools/build.sh archive >/dev/null
 fi
 mkdir -p "$out"
 

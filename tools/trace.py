@@ -5,7 +5,7 @@ and names.
 
 In a table, a pair of backquotes around `PATH` or `PATH: NAME, NAME` names a file below the repository's root, and
 names that stand in it. Other backquoted words are left alone. An edit that changes no file of src/, or there nothing but
-an `ensures`, has "(definition)" behind it.
+clauses, has "(definition)" behind it.
 """
 import glob
 import os
@@ -13,17 +13,33 @@ import re
 import sys
 
 ROOT = os.path.dirname(os.path.dirname(os.path.abspath(__file__)))
+CLAUSE = ("requires", "ensures")
+
+
+def in_clause(path, line):
+    """Whether a line of code stands in a clause: it begins one, or goes on with one that begins above it."""
+    if line.lstrip().startswith(CLAUSE):
+        return True
+    with open(path, encoding="utf-8") as file:
+        lines = file.read().split("\n")
+    for above in reversed(lines[:next((k for k, one in enumerate(lines) if line.strip() in one), 0)]):
+        if above.lstrip().startswith(CLAUSE):
+            return True
+        if above.rstrip().endswith((";", "{", "}")):
+            return False
+    return False
 
 
 def edits_a_program(path):
-    """Whether an edit changes a line of code: one below src/ that is no `ensures`."""
+    """Whether an edit changes a line of code: one below src/ that is of no contract."""
     file = None
     with open(path, encoding="utf-8") as edit:
         for line in edit:
             if line.startswith("file: "):
-                file = line[len("file: "):]
-            if line.startswith("old: ") and file.startswith("src/") and not line[len("old: "):].lstrip().startswith("ensures"):
-                return True
+                file = line[len("file: "):].strip()
+            if line.startswith("old: ") and file.startswith("src/"):
+                if not in_clause(os.path.join(os.path.dirname(os.path.dirname(path)), file), line[len("old: "):].rstrip("\n")):
+                    return True
     return False
 
 
@@ -60,7 +76,7 @@ def faults_of_names(text):
             with open(full, encoding="utf-8") as file:
                 source = file.read()
             for name in names.split(", "):
-                if not re.search(r"(?<![\w·-])%s(?![\w·-])" % re.escape(name), source):
+                if not re.search(r"(?<![\w'-])%s(?![\w'-])" % re.escape(name), source):
                     found.append("line %d: no %s in %s" % (number, name, path))
     if count == 0:
         found.append("nothing is named")

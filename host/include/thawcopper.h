@@ -1,4 +1,4 @@
-/* Thawcopper's C entries, in libthawcopper.a (`rt staticlib thawcopper`).
+/* Thawcopper's C entries, in libthawcopper.a (`bash tools/build.sh archive`).
  *
  * Words are unsigned, 32 bits, little-endian. A row is four words (kind, attr, name, end), a name two (start, length),
  * a binding three (use, property, frame). docs/FORMAT.md has what they mean and what is refused.

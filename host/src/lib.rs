@@ -22,7 +22,7 @@
 //! assert_eq!(names.spelling(&table, &converted.rows[9]), Some("_this"));
 //! ```
 //!
-//! The package has no dependencies. It links `libthawcopper.a`, which `rt staticlib thawcopper` writes; the build script
+//! The package has no dependencies. It links `libthawcopper.a`, which `tools/build.sh archive` writes; the build script
 //! looks for it in `../target/staticlib`, or in the directory that `THAWCOPPER_LIB_DIR` names. The archive is for x86-64.
 //!
 //! [`convert_with`] takes [`Options`], which beside the [`Switches`] say whether it is the print room that calls, as

@@ -3,7 +3,7 @@
 
 #![tactic(auto)]
 
-ghost use Rattle.std.specs.Prelude.{◌≡◌, List, [], ◌+◌, ◌*◌, ◌/◌, ◌≤◌, ◌<◌, ◌^◌, length, take};
+ghost use Rattle.std.specs.Prelude.{◌≡◌, List, [], ◌+◌, ◌*◌, ◌/◌, ◌≤◌, ◌<◌, ◌^◌, length, take, IfOk};
 ghost use Rattle.names.specs.Words.{words};
 ghost use Rattle.steps.specs.Mode.{switches};
 ghost use Rattle.answer.specs.Answer.{number_of, place_of, rows_of, bindings_of};
@@ -18,6 +18,9 @@ use converter::convert;
 use form::{Form, begin, faulty_line, is_settled, take_piece};
 use parser::{LONGEST, Parsed, parse};
 use printer::print;
+use reading::read_full;
+use std::io;
+use std::io::Read;
 
 // Room for the input: one byte more than the longest text that is read to its end, so that a full
 // room is known to be too long.
@@ -179,42 +182,42 @@ const MOST_PIECES: usize = 32767;
 // The answer to a text of which the room has the first piece and is full: piece after piece, to its end or to
 // where no later piece can change what is told (`settled-stays`). Of a text that does not end in so many pieces
 // the line that it has come to is told.
-fn answer_pieces(input: &mut [u8], out: &mut [u8]) -> usize
+fn answer_pieces(reader: &mut impl Read, input: &mut [u8], out: &mut [u8]) -> io::Result<usize>
     requires { (length input.old ≡ 131073) × (131072 ≤ length out.old) }
-    ensures { result ≤ length out.new }
+    ensures { IfOk result (λ n. n ≤ length out.new) }
 {
     let mut front = [0u8; 44];
     let mut form = take_piece(begin(), &mut front, input);
     let mut pieces: usize = 1;
     while pieces < MOST_PIECES {
         if is_settled(form.part, form.count) {
-            return turn_away(12, form.line as u32, out);
+            return Ok(turn_away(12, form.line as u32, out));
         }
-        let n = io::read_full(0, input);
+        let n = read_full(reader, input)?;
         form = take_piece(form, &mut front, &input[..n]);
         if n < input.len() {
-            return answer_long(form, &front, out);
+            return Ok(answer_long(form, &front, out));
         }
         pieces += 1;
     }
-    turn_away(12, form.line as u32, out)
+    Ok(turn_away(12, form.line as u32, out))
 }
 
-// The answer to the standard input.
-fn answer_input(input: &mut [u8], out: &mut [u8]) -> usize
+// The answer to what the reader has left.
+fn answer_input(reader: &mut impl Read, input: &mut [u8], out: &mut [u8]) -> io::Result<usize>
     requires { (length input.old ≡ 131073) × (131072 ≤ length out.old) }
-    ensures { result ≤ length out.new }
+    ensures { IfOk result (λ n. n ≤ length out.new) }
 {
-    let n = io::read_full(0, input);
+    let n = read_full(reader, input)?;
     if n <= LONGEST {
-        return answer_text(&input[..n], out);
+        return Ok(answer_text(&input[..n], out));
     }
-    answer_pieces(input, out)
+    answer_pieces(reader, input, out)
 }
 
-fn main() {
+fn main(rt: HostRuntime) -> io::Result<()> {
     let mut input = input_room();
     let mut out = text_room();
-    let r = answer_input(&mut input, &mut out);
-    io::write_all(1, &out[..r]);
+    let r = answer_input(&mut rt.stdin(), &mut input, &mut out)?;
+    rt.write_all(&out[..r])
 }

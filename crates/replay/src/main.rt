@@ -3,9 +3,11 @@
 
 #![tactic(auto)]
 
-ghost use Rattle.std.specs.Prelude.{◌≡◌, ◌≤◌, ◌<◌, length};
+ghost use Rattle.std.specs.Prelude.{◌≡◌, ◌≤◌, ◌<◌, length, IfOk};
 
+use reading::read_full;
 use rows::{Checked, Limits};
+use std::io;
 use vectors::runs::Built;
 use vectors::tally::{Tally, Turn, bad_data, print_case, print_tally, whole};
 use vectors::{input, runs};
@@ -29,10 +31,8 @@ impl Answer {
         (self.number == other.number) & (self.place == other.place)
     }
 
-    fn print(self) {
-        io::print_decimal(1, self.number);
-        io::write_all(1, b" ");
-        io::print_decimal(1, self.place);
+    fn print(self, rt: &impl Print) -> io::Result<()> {
+        print!(rt; "{} {}", self.number, self.place)
     }
 }
 
@@ -61,28 +61,29 @@ fn run(table: &[u8], pairs: &[u8], text: &[u8], b: Built, limits: Limits) -> Ans
     answer_of(rows::check(&table[..t], &pairs[..p], &text[..x], limits))
 }
 
-fn print_difference(n: usize, got: Answer, want: Answer) {
-    print_case(n);
-    io::write_all(1, b"got ");
-    got.print();
-    io::write_all(1, b", want ");
-    want.print();
-    io::write_all(1, b"\n");
+fn print_difference(rt: &impl Print, n: usize, got: Answer, want: Answer) -> io::Result<()> {
+    print_case(rt, n)?;
+    print!(rt; "got ")?;
+    got.print(rt)?;
+    print!(rt; ", want ")?;
+    want.print(rt)?;
+    print!(rt; "\n")
 }
 
 // 1 where the answers differ, which prints both, else 0.
-fn compared(n: usize, got: Answer, want: Answer) -> usize
-    ensures { result ≤ 1 }
+fn compared(rt: &impl Print, n: usize, got: Answer, want: Answer) -> io::Result<usize>
+    ensures { IfOk result (λ differ. differ ≤ 1) }
 {
     if got.same(want) {
-        return 0;
+        return Ok(0);
     }
-    print_difference(n, got, want);
-    1
+    print_difference(rt, n, got, want)?;
+    Ok(1)
 }
 
 // Table n, whose words start at `from`.
 fn run_case(
+    rt: &impl Print,
     words: &[u32],
     count: usize,
     from: usize,
@@ -90,18 +91,18 @@ fn run_case(
     table: &mut [u8],
     pairs: &mut [u8],
     text: &mut [u8],
-) -> Turn
+) -> io::Result<Turn>
     requires { (from < count) × (count ≤ 65536) }
-    ensures { (result.differ ≤ 1) × (from < result.at) × (result.at ≤ count) }
+    ensures { IfOk result (λ turn. (turn.differ ≤ 1) × (from < turn.at) × (turn.at ≤ count)) }
 {
     let b = runs::build(words, from + 3, 4, table, pairs, text);
     let at = b.at;
     let head = input::word(words, from) as usize;
     if count < at + 2 {
-        return bad_data(n, count);
+        return bad_data(rt, n, count);
     }
     if !b.good | (head != n) {
-        return bad_data(n, count);
+        return bad_data(rt, n, count);
     }
     let limits = Limits {
         rows: input::word(words, from + 1) as usize,
@@ -109,15 +110,13 @@ fn run_case(
     };
     let want = stored(words, at);
     let got = run(table, pairs, text, b, limits);
-    Turn {
-        differ: compared(n, got, want),
-        at: at + 2,
-    }
+    let differ = compared(rt, n, got, want)?;
+    Ok(Turn { differ, at: at + 2 })
 }
 
-fn replay(words: &[u32], count: usize) -> Tally
+fn replay(rt: &impl Print, words: &[u32], count: usize) -> io::Result<Tally>
     requires { count ≤ 65536 }
-    ensures { (result.cases ≤ 65536) × (result.differ ≤ 65536) }
+    ensures { IfOk result (λ tally. (tally.cases ≤ 65536) × (tally.differ ≤ 65536)) }
 {
     let mut table = row_room();
     let mut pairs = runs::pair_room();
@@ -127,6 +126,7 @@ fn replay(words: &[u32], count: usize) -> Tally
     let mut differ: usize = 0;
     while at < count {
         let t = run_case(
+            rt,
             words,
             count,
             at,
@@ -134,22 +134,22 @@ fn replay(words: &[u32], count: usize) -> Tally
             &mut table,
             &mut pairs,
             &mut text,
-        );
+        )?;
         tables += 1;
         differ += t.differ;
         at = t.at;
     }
-    Tally {
+    Ok(Tally {
         cases: tables,
         differ,
-    }
+    })
 }
 
-fn main() {
+fn main(rt: HostRuntime) -> io::Result<()> {
     let mut data = input::byte_room();
     let mut words = input::word_room();
-    let n = io::read_full(0, &mut data);
+    let n = read_full(&mut rt.stdin(), &mut data)?;
     let r = input::numbers(&data[..n], &mut words);
-    let t = replay(&words, r.count);
-    print_tally(whole(t, r.good & (n < 524288)), b"tables");
+    let t = replay(&rt, &words, r.count)?;
+    print_tally(&rt, whole(&rt, t, r.good & (n < 524288))?, b"tables")
 }

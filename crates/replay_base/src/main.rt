@@ -3,8 +3,10 @@
 
 #![tactic(auto)]
 
-ghost use Rattle.std.specs.Prelude.{◌≡◌, ◌+◌, ◌≤◌, ◌<◌, length};
+ghost use Rattle.std.specs.Prelude.{◌≡◌, ◌+◌, ◌≤◌, ◌<◌, length, IfOk};
 
+use reading::read_full;
+use std::io;
 use thawcopper::Spelled;
 use vectors::runs::Built;
 use vectors::tally::{Tally, Turn, bad_data, print_case, print_tally, whole};
@@ -75,35 +77,38 @@ fn run(
     thawcopper::thawcopper_base_text(number, &records[..r], &pairs[..p], &text[..x], out)
 }
 
-fn print_numbers(s: Spelled) {
-    io::print_decimal(1, s.refusal as u64);
-    io::write_all(1, b" ");
-    io::print_decimal(1, s.place as u64);
-    io::write_all(1, b" ");
-    io::print_decimal(1, s.bytes as u64);
+fn print_numbers(rt: &impl Print, s: Spelled) -> io::Result<()> {
+    print!(rt; "{} {} {}", s.refusal, s.place, s.bytes)
 }
 
 // 1 where the numbers or the bytes differ, which prints the numbers, else 0.
-fn compared(n: usize, got: Spelled, want: Spelled, bytes: bool) -> usize
-    ensures { result ≤ 1 }
+fn compared(
+    rt: &impl Print,
+    n: usize,
+    got: Spelled,
+    want: Spelled,
+    bytes: bool,
+) -> io::Result<usize>
+    ensures { IfOk result (λ differ. differ ≤ 1) }
 {
     if same_numbers(got, want) & bytes {
-        return 0;
+        return Ok(0);
     }
-    print_case(n);
-    io::write_all(1, b"got ");
-    print_numbers(got);
-    io::write_all(1, b", want ");
-    print_numbers(want);
+    print_case(rt, n)?;
+    print!(rt; "got ")?;
+    print_numbers(rt, got)?;
+    print!(rt; ", want ")?;
+    print_numbers(rt, want)?;
     if !bytes {
-        io::write_all(1, b", and the bytes differ");
+        print!(rt; ", and the bytes differ")?;
     }
-    io::write_all(1, b"\n");
-    1
+    print!(rt; "\n")?;
+    Ok(1)
 }
 
 // Call n, whose words start at `from`, with all of `out` lent: 1 where anything differs, else 0.
 fn call(
+    rt: &impl Print,
     words: &[u32],
     from: usize,
     n: usize,
@@ -112,20 +117,21 @@ fn call(
     pairs: &[u8],
     text: &[u8],
     out: &mut [u8],
-) -> usize
+) -> io::Result<usize>
     requires { (from < 65536) × (b.at ≤ 65533) × (length out.old ≤ 512) }
-    ensures { result ≤ 1 }
+    ensures { IfOk result (λ differ. differ ≤ 1) }
 {
     let number = input::word(words, from + 1);
     let want = stored(words, b.at);
     lent::fill(out);
     let got = run(number, records, pairs, text, b, out);
     let bytes = same_bytes(out, words, b.at + 3, want.bytes as usize);
-    compared(n, got, want, bytes)
+    compared(rt, n, got, want, bytes)
 }
 
 // Call n, built, if as many bytes can be lent as it says; `after` is the word after it.
 fn run_built(
+    rt: &impl Print,
     words: &[u32],
     count: usize,
     from: usize,
@@ -136,27 +142,36 @@ fn run_built(
     pairs: &[u8],
     text: &[u8],
     out: &mut [u8],
-) -> Turn
+) -> io::Result<Turn>
     requires { (from < after) × (after ≤ count) × (count ≤ 65536) × (b.at + 3 ≤ after) × (length out.old ≤ 512) }
-    ensures { (result.differ ≤ 1) × (from < result.at) × (result.at ≤ count) }
+    ensures { IfOk result (λ turn. (turn.differ ≤ 1) × (from < turn.at) × (turn.at ≤ count)) }
 {
     let head = input::word(words, from) as usize;
     let room = input::word(words, from + 2) as usize;
     if !b.good | (head != n) {
-        return bad_data(n, count);
+        return bad_data(rt, n, count);
     }
     if out.len() < room {
-        return bad_data(n, count);
+        return bad_data(rt, n, count);
     }
     let lent = runs::within(room, out);
-    Turn {
-        differ: call(words, from, n, b, records, pairs, text, &mut out[..lent]),
-        at: after,
-    }
+    let differ = call(
+        rt,
+        words,
+        from,
+        n,
+        b,
+        records,
+        pairs,
+        text,
+        &mut out[..lent],
+    )?;
+    Ok(Turn { differ, at: after })
 }
 
 // Call n, whose words start at `from`.
 fn run_case(
+    rt: &impl Print,
     words: &[u32],
     count: usize,
     from: usize,
@@ -165,23 +180,25 @@ fn run_case(
     pairs: &mut [u8],
     text: &mut [u8],
     out: &mut [u8],
-) -> Turn
+) -> io::Result<Turn>
     requires { (from < count) × (count ≤ 65536) × (length out.old ≤ 512) }
-    ensures { (result.differ ≤ 1) × (from < result.at) × (result.at ≤ count) }
+    ensures { IfOk result (λ turn. (turn.differ ≤ 1) × (from < turn.at) × (turn.at ≤ count)) }
 {
     let b = runs::build(words, from + 3, 3, records, pairs, text);
     let at = b.at;
     let bytes = input::word(words, at + 2) as usize;
     let after = at + 3 + bytes;
     if count < after {
-        return bad_data(n, count);
+        return bad_data(rt, n, count);
     }
-    run_built(words, count, from, n, b, after, records, pairs, text, out)
+    run_built(
+        rt, words, count, from, n, b, after, records, pairs, text, out,
+    )
 }
 
-fn replay(words: &[u32], count: usize) -> Tally
+fn replay(rt: &impl Print, words: &[u32], count: usize) -> io::Result<Tally>
     requires { count ≤ 65536 }
-    ensures { (result.cases ≤ 65536) × (result.differ ≤ 65536) }
+    ensures { IfOk result (λ tally. (tally.cases ≤ 65536) × (tally.differ ≤ 65536)) }
 {
     let mut records = runs::record_room();
     let mut pairs = runs::pair_room();
@@ -192,6 +209,7 @@ fn replay(words: &[u32], count: usize) -> Tally
     let mut differ: usize = 0;
     while at < count {
         let t = run_case(
+            rt,
             words,
             count,
             at,
@@ -200,19 +218,19 @@ fn replay(words: &[u32], count: usize) -> Tally
             &mut pairs,
             &mut text,
             &mut out,
-        );
+        )?;
         cases += 1;
         differ += t.differ;
         at = t.at;
     }
-    Tally { cases, differ }
+    Ok(Tally { cases, differ })
 }
 
-fn main() {
+fn main(rt: HostRuntime) -> io::Result<()> {
     let mut data = input::byte_room();
     let mut words = input::word_room();
-    let n = io::read_full(0, &mut data);
+    let n = read_full(&mut rt.stdin(), &mut data)?;
     let r = input::numbers(&data[..n], &mut words);
-    let t = replay(&words, r.count);
-    print_tally(whole(t, r.good & (n < 524288)), b"calls");
+    let t = replay(&rt, &words, r.count)?;
+    print_tally(&rt, whole(&rt, t, r.good & (n < 524288))?, b"calls")
 }

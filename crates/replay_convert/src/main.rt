@@ -4,8 +4,10 @@
 
 #![tactic(auto)]
 
-ghost use Rattle.std.specs.Prelude.{◌≡◌, ◌+◌, ◌≤◌, ◌<◌, length};
+ghost use Rattle.std.specs.Prelude.{◌≡◌, ◌+◌, ◌≤◌, ◌<◌, length, IfOk};
 
+use reading::read_full;
+use std::io;
 use thawcopper::Answer;
 use vectors::runs::{Built, Part};
 use vectors::tally::{Tally, Turn, bad_data, print_case, print_tally, whole};
@@ -105,36 +107,37 @@ fn run(
     )
 }
 
-fn print_numbers(a: Answer) {
-    io::print_decimal(1, a.refusal as u64);
-    io::write_all(1, b" ");
-    io::print_decimal(1, a.place as u64);
-    io::write_all(1, b" ");
-    io::print_decimal(1, a.rows as u64);
-    io::write_all(1, b" ");
-    io::print_decimal(1, a.bindings as u64);
+fn print_numbers(rt: &impl Print, a: Answer) -> io::Result<()> {
+    print!(rt; "{} {} {} {}", a.refusal, a.place, a.rows, a.bindings)
 }
 
 // 1 where the numbers or the bytes differ, which prints the numbers, else 0.
-fn compared(n: usize, got: Answer, want: Answer, rows: bool, records: bool) -> usize
-    ensures { result ≤ 1 }
+fn compared(
+    rt: &impl Print,
+    n: usize,
+    got: Answer,
+    want: Answer,
+    rows: bool,
+    records: bool,
+) -> io::Result<usize>
+    ensures { IfOk result (λ differ. differ ≤ 1) }
 {
     if same_numbers(got, want) & rows & records {
-        return 0;
+        return Ok(0);
     }
-    print_case(n);
-    io::write_all(1, b"got ");
-    print_numbers(got);
-    io::write_all(1, b", want ");
-    print_numbers(want);
+    print_case(rt, n)?;
+    print!(rt; "got ")?;
+    print_numbers(rt, got)?;
+    print!(rt; ", want ")?;
+    print_numbers(rt, want)?;
     if !rows {
-        io::write_all(1, b", and the rows differ");
+        print!(rt; ", and the rows differ")?;
     }
     if !records {
-        io::write_all(1, b", and the bindings differ");
+        print!(rt; ", and the bindings differ")?;
     }
-    io::write_all(1, b"\n");
-    1
+    print!(rt; "\n")?;
+    Ok(1)
 }
 
 // The stored answer, and how many bytes its rows and its records have.
@@ -147,6 +150,7 @@ struct Want {
 
 // Conversion n with all of `out_rows` and `out_records` lent: 1 where anything differs, else 0.
 fn converted(
+    rt: &impl Print,
     n: usize,
     a: Asked,
     b: Built,
@@ -158,15 +162,15 @@ fn converted(
     records: &[u8],
     out_rows: &mut [u8],
     out_records: &mut [u8],
-) -> usize
-    ensures { result ≤ 1 }
+) -> io::Result<usize>
+    ensures { IfOk result (λ differ. differ ≤ 1) }
 {
     lent::fill(out_rows);
     lent::fill(out_records);
     let got = run(a, table, pairs, text, b, out_rows, out_records);
     let same_rows = lent::same_bytes(out_rows, rows, want.rows);
     let same_records = lent::same_bytes(out_records, records, want.records);
-    compared(n, got, want.answer, same_rows, same_records)
+    compared(rt, n, got, want.answer, same_rows, same_records)
 }
 
 // Whether a result's part is whole and has that many bytes.
@@ -218,6 +222,7 @@ fn can_run(n: usize, a: Asked, b: Built, k: Kept, rows: usize, records: usize) -
 
 // Conversion n, whose words start at `from`, built and its result laid out.
 fn run_built(
+    rt: &impl Print,
     count: usize,
     from: usize,
     n: usize,
@@ -231,17 +236,18 @@ fn run_built(
     records: &[u8],
     out_rows: &mut [u8],
     out_records: &mut [u8],
-) -> Turn
+) -> io::Result<Turn>
     requires { (from < k.at) × (k.at ≤ count) × (count ≤ 327680) }
-    ensures { (result.differ ≤ 1) × (from < result.at) × (result.at ≤ count) }
+    ensures { IfOk result (λ turn. (turn.differ ≤ 1) × (from < turn.at) × (turn.at ≤ count)) }
 {
     let can = can_run(n, a, b, k, out_rows.len(), out_records.len());
     if !can {
-        return bad_data(n, count);
+        return bad_data(rt, n, count);
     }
     let r = runs::within(a.rows, out_rows);
     let e = runs::within(a.records, out_records);
     let differ = converted(
+        rt,
         n,
         a,
         b,
@@ -253,12 +259,13 @@ fn run_built(
         records,
         &mut out_rows[..r],
         &mut out_records[..e],
-    );
-    Turn { differ, at: k.at }
+    )?;
+    Ok(Turn { differ, at: k.at })
 }
 
 // Conversion n, whose words start at `from`, built; lays its result out.
 fn run_table(
+    rt: &impl Print,
     words: &[u32],
     count: usize,
     from: usize,
@@ -272,15 +279,16 @@ fn run_table(
     records: &mut [u8],
     out_rows: &mut [u8],
     out_records: &mut [u8],
-) -> Turn
+) -> io::Result<Turn>
     requires { (from < b.at) × (b.at ≤ count) × (count ≤ 327680) }
-    ensures { (result.differ ≤ 1) × (from < result.at) × (result.at ≤ count) }
+    ensures { IfOk result (λ turn. (turn.differ ≤ 1) × (from < turn.at) × (turn.at ≤ count)) }
 {
     let k = lay_out(words, b.at, rows, records);
     if count < k.at {
-        return bad_data(n, count);
+        return bad_data(rt, n, count);
     }
     run_built(
+        rt,
         count,
         from,
         n,
@@ -299,6 +307,7 @@ fn run_table(
 
 // Conversion n, whose words start at `from`.
 fn run_case(
+    rt: &impl Print,
     words: &[u32],
     count: usize,
     from: usize,
@@ -310,16 +319,17 @@ fn run_case(
     records: &mut [u8],
     out_rows: &mut [u8],
     out_records: &mut [u8],
-) -> Turn
+) -> io::Result<Turn>
     requires { (from < count) × (count ≤ 327680) }
-    ensures { (result.differ ≤ 1) × (from < result.at) × (result.at ≤ count) }
+    ensures { IfOk result (λ turn. (turn.differ ≤ 1) × (from < turn.at) × (turn.at ≤ count)) }
 {
     let a = asked_at(words, from);
     let b = runs::build(words, from + 4, 4, table, pairs, text);
     if count < b.at {
-        return bad_data(n, count);
+        return bad_data(rt, n, count);
     }
     run_table(
+        rt,
         words,
         count,
         from,
@@ -336,9 +346,9 @@ fn run_case(
     )
 }
 
-fn replay(words: &[u32], count: usize) -> Tally
+fn replay(rt: &impl Print, words: &[u32], count: usize) -> io::Result<Tally>
     requires { count ≤ 327680 }
-    ensures { (result.cases ≤ 327680) × (result.differ ≤ 327680) }
+    ensures { IfOk result (λ tally. (tally.cases ≤ 327680) × (tally.differ ≤ 327680)) }
 {
     let mut table = row_room();
     let mut pairs = runs::pair_room();
@@ -352,6 +362,7 @@ fn replay(words: &[u32], count: usize) -> Tally
     let mut differ: usize = 0;
     while at < count {
         let t = run_case(
+            rt,
             words,
             count,
             at,
@@ -363,19 +374,19 @@ fn replay(words: &[u32], count: usize) -> Tally
             &mut records,
             &mut out_rows,
             &mut out_records,
-        );
+        )?;
         cases += 1;
         differ += t.differ;
         at = t.at;
     }
-    Tally { cases, differ }
+    Ok(Tally { cases, differ })
 }
 
-fn main() {
+fn main(rt: HostRuntime) -> io::Result<()> {
     let mut data = byte_room();
     let mut words = word_room();
-    let n = io::read_full(0, &mut data);
+    let n = read_full(&mut rt.stdin(), &mut data)?;
     let r = input::numbers(&data[..n], &mut words);
-    let t = replay(&words, r.count);
-    print_tally(whole(t, r.good & (n < 1048576)), b"conversions");
+    let t = replay(&rt, &words, r.count)?;
+    print_tally(&rt, whole(&rt, t, r.good & (n < 1048576))?, b"conversions")
 }

@@ -4,8 +4,10 @@
 
 #![tactic(auto)]
 
-ghost use Rattle.std.specs.Prelude.{◌≡◌, ◌+◌, ◌≤◌, ◌<◌, length};
+ghost use Rattle.std.specs.Prelude.{◌≡◌, ◌+◌, ◌≤◌, ◌<◌, length, IfOk};
 
+use reading::read_full;
+use std::io;
 use vectors::runs::{Built, Names};
 use vectors::tally::{Tally, Turn, bad_data, print_case, print_tally, whole};
 use vectors::{input, lent, runs};
@@ -32,14 +34,11 @@ impl Answer {
             & (self.fourth == other.fourth)
     }
 
-    fn print(self) {
-        io::print_decimal(1, self.first as u64);
-        io::write_all(1, b" ");
-        io::print_decimal(1, self.second as u64);
-        io::write_all(1, b" ");
-        io::print_decimal(1, self.third as u64);
-        io::write_all(1, b" ");
-        io::print_decimal(1, self.fourth as u64);
+    fn print(self, rt: &impl Print) -> io::Result<()> {
+        print!(rt;
+            "{} {} {} {}",
+            self.first, self.second, self.third, self.fourth
+        )
     }
 }
 
@@ -134,29 +133,37 @@ fn look_up(
 }
 
 // 1 where the numbers or the bytes differ, which prints the numbers, else 0.
-fn compared(n: usize, got: Answer, want: Answer, pairs: bool, text: bool) -> usize
-    ensures { result ≤ 1 }
+fn compared(
+    rt: &impl Print,
+    n: usize,
+    got: Answer,
+    want: Answer,
+    pairs: bool,
+    text: bool,
+) -> io::Result<usize>
+    ensures { IfOk result (λ differ. differ ≤ 1) }
 {
     if got.same(want) & pairs & text {
-        return 0;
+        return Ok(0);
     }
-    print_case(n);
-    io::write_all(1, b"got ");
-    got.print();
-    io::write_all(1, b", want ");
-    want.print();
+    print_case(rt, n)?;
+    print!(rt; "got ")?;
+    got.print(rt)?;
+    print!(rt; ", want ")?;
+    want.print(rt)?;
     if !pairs {
-        io::write_all(1, b", and the pairs differ");
+        print!(rt; ", and the pairs differ")?;
     }
     if !text {
-        io::write_all(1, b", and the text differs");
+        print!(rt; ", and the text differs")?;
     }
-    io::write_all(1, b"\n");
-    1
+    print!(rt; "\n")?;
+    Ok(1)
 }
 
 // Call n of the maker, with all of `out_pairs` and `out_text` lent: 1 where anything differs, else 0.
 fn made(
+    rt: &impl Print,
     n: usize,
     b: Built,
     want: Answer,
@@ -168,15 +175,15 @@ fn made(
     made_text: &[u8],
     out_pairs: &mut [u8],
     out_text: &mut [u8],
-) -> usize
-    ensures { result ≤ 1 }
+) -> io::Result<usize>
+    ensures { IfOk result (λ differ. differ ≤ 1) }
 {
     lent::fill(out_pairs);
     lent::fill(out_text);
     let got = make(b, records, pairs, text, out_pairs, out_text);
     let same_pairs = lent::same_bytes(out_pairs, made_pairs, m.pairs);
     let same_text = lent::same_bytes(out_text, made_text, m.text);
-    compared(n, got, want, same_pairs, same_text)
+    compared(rt, n, got, want, same_pairs, same_text)
 }
 
 // Whether the made names are as many pairs and bytes as the answer says.
@@ -192,6 +199,7 @@ fn can_make(a: Asked, want: Answer, m: Names, pairs: usize, text: usize) -> bool
 
 // Call n of the maker, which ends before word `after`.
 fn run_maker(
+    rt: &impl Print,
     count: usize,
     after: usize,
     n: usize,
@@ -206,17 +214,18 @@ fn run_maker(
     made_text: &[u8],
     out_pairs: &mut [u8],
     out_text: &mut [u8],
-) -> Turn
+) -> io::Result<Turn>
     requires { after ≤ count }
-    ensures { (result.differ ≤ 1) × (after ≤ result.at) × (result.at ≤ count) }
+    ensures { IfOk result (λ turn. (turn.differ ≤ 1) × (after ≤ turn.at) × (turn.at ≤ count)) }
 {
     let can = can_make(a, want, m, out_pairs.len(), out_text.len());
     if !can {
-        return bad_data(n, count);
+        return bad_data(rt, n, count);
     }
     let p = runs::within(a.first as usize, out_pairs);
     let x = runs::within(a.second as usize, out_text);
     let differ = made(
+        rt,
         n,
         b,
         want,
@@ -228,12 +237,13 @@ fn run_maker(
         made_text,
         &mut out_pairs[..p],
         &mut out_text[..x],
-    );
-    Turn { differ, at: after }
+    )?;
+    Ok(Turn { differ, at: after })
 }
 
 // Call n, whose words start at `from`, built, as are its made names.
 fn run_built(
+    rt: &impl Print,
     count: usize,
     from: usize,
     n: usize,
@@ -248,28 +258,27 @@ fn run_built(
     made_text: &[u8],
     out_pairs: &mut [u8],
     out_text: &mut [u8],
-) -> Turn
+) -> io::Result<Turn>
     requires { (from < m.at) × (m.at ≤ count) }
-    ensures { (result.differ ≤ 1) × (from < result.at) × (result.at ≤ count) }
+    ensures { IfOk result (λ turn. (turn.differ ≤ 1) × (from < turn.at) × (turn.at ≤ count)) }
 {
     if !b.good | !m.good | (a.number != n) {
-        return bad_data(n, count);
+        return bad_data(rt, n, count);
     }
     if a.entry == LOOKUP {
         let got = look_up(a, b, m, pairs, text, made_pairs, made_text);
-        return Turn {
-            differ: compared(n, got, want, true, true),
-            at: m.at,
-        };
+        let differ = compared(rt, n, got, want, true, true)?;
+        return Ok(Turn { differ, at: m.at });
     }
     run_maker(
-        count, m.at, n, a, b, want, m, records, pairs, text, made_pairs, made_text, out_pairs,
+        rt, count, m.at, n, a, b, want, m, records, pairs, text, made_pairs, made_text, out_pairs,
         out_text,
     )
 }
 
 // Call n, whose words start at `from`, built; builds its made names.
 fn run_names(
+    rt: &impl Print,
     words: &[u32],
     count: usize,
     from: usize,
@@ -282,24 +291,25 @@ fn run_names(
     made_text: &mut [u8],
     out_pairs: &mut [u8],
     out_text: &mut [u8],
-) -> Turn
+) -> io::Result<Turn>
     requires { (from < b.at) × (b.at ≤ count) × (count ≤ 65536) }
-    ensures { (result.differ ≤ 1) × (from < result.at) × (result.at ≤ count) }
+    ensures { IfOk result (λ turn. (turn.differ ≤ 1) × (from < turn.at) × (turn.at ≤ count)) }
 {
     let a = asked_at(words, from);
     let want = answer_at(words, b.at);
     let m = runs::build_names(words, b.at + 4, made_pairs, made_text);
     if count < m.at {
-        return bad_data(n, count);
+        return bad_data(rt, n, count);
     }
     run_built(
-        count, from, n, a, b, want, m, records, pairs, text, made_pairs, made_text, out_pairs,
+        rt, count, from, n, a, b, want, m, records, pairs, text, made_pairs, made_text, out_pairs,
         out_text,
     )
 }
 
 // Call n, whose words start at `from`.
 fn run_case(
+    rt: &impl Print,
     words: &[u32],
     count: usize,
     from: usize,
@@ -311,22 +321,23 @@ fn run_case(
     made_text: &mut [u8],
     out_pairs: &mut [u8],
     out_text: &mut [u8],
-) -> Turn
+) -> io::Result<Turn>
     requires { (from < count) × (count ≤ 65536) }
-    ensures { (result.differ ≤ 1) × (from < result.at) × (result.at ≤ count) }
+    ensures { IfOk result (λ turn. (turn.differ ≤ 1) × (from < turn.at) × (turn.at ≤ count)) }
 {
     let b = runs::build(words, from + 4, 3, records, pairs, text);
     if count < b.at {
-        return bad_data(n, count);
+        return bad_data(rt, n, count);
     }
     run_names(
-        words, count, from, n, b, records, pairs, text, made_pairs, made_text, out_pairs, out_text,
+        rt, words, count, from, n, b, records, pairs, text, made_pairs, made_text, out_pairs,
+        out_text,
     )
 }
 
-fn replay(words: &[u32], count: usize) -> Tally
+fn replay(rt: &impl Print, words: &[u32], count: usize) -> io::Result<Tally>
     requires { count ≤ 65536 }
-    ensures { (result.cases ≤ 65536) × (result.differ ≤ 65536) }
+    ensures { IfOk result (λ tally. (tally.cases ≤ 65536) × (tally.differ ≤ 65536)) }
 {
     let mut records = runs::record_room();
     let mut pairs = runs::pair_room();
@@ -340,6 +351,7 @@ fn replay(words: &[u32], count: usize) -> Tally
     let mut differ: usize = 0;
     while at < count {
         let t = run_case(
+            rt,
             words,
             count,
             at,
@@ -351,19 +363,19 @@ fn replay(words: &[u32], count: usize) -> Tally
             &mut made_text,
             &mut out_pairs,
             &mut out_text,
-        );
+        )?;
         cases += 1;
         differ += t.differ;
         at = t.at;
     }
-    Tally { cases, differ }
+    Ok(Tally { cases, differ })
 }
 
-fn main() {
+fn main(rt: HostRuntime) -> io::Result<()> {
     let mut data = input::byte_room();
     let mut words = input::word_room();
-    let n = io::read_full(0, &mut data);
+    let n = read_full(&mut rt.stdin(), &mut data)?;
     let r = input::numbers(&data[..n], &mut words);
-    let t = replay(&words, r.count);
-    print_tally(whole(t, r.good & (n < 524288)), b"calls");
+    let t = replay(&rt, &words, r.count)?;
+    print_tally(&rt, whole(&rt, t, r.good & (n < 524288))?, b"calls")
 }

@@ -1,5 +1,5 @@
-// The C boundary: what a host links against. A slice is a pointer and a length, words are
-// little-endian. Every input is answered, and a refusal leaves what was lent as it was.
+// The entries, answered in numbers as C takes them: what crates/thawcopper_c exports, and what the replay programs
+// call. Words are little-endian. Every input is answered, and a refusal leaves what was lent as it was.
 
 #![tactic(auto)]
 
@@ -62,8 +62,7 @@ fn numbers_of(answer: Spelling) -> Spelled
 }
 
 // Writes the text of binding `number`, from 1, to the front of `out`.
-#[unsafe(no_mangle)]
-pub extern "C" fn thawcopper_base_text(
+pub fn thawcopper_base_text(
     number: u32,
     bindings: &[u8],
     names: &[u8],
@@ -114,8 +113,7 @@ fn numbers_of_naming(answer: Naming) -> Named
 
 // Writes the name of each binding: its bytes to the front of `out_text`, where it starts and how long it
 // is to the front of `out_pairs`.
-#[unsafe(no_mangle)]
-pub extern "C" fn thawcopper_make_names(
+pub fn thawcopper_make_names(
     bindings: &[u8],
     names: &[u8],
     text: &[u8],
@@ -141,8 +139,7 @@ pub struct Part {
 
 // The spelling of an Ident of that attr and number, as a part of `text` (attr 0) or of `made_text`
 // (attr 1). An exported function can't hand back a part itself, so where it starts and how long it is are told.
-#[unsafe(no_mangle)]
-pub extern "C" fn thawcopper_spelling(
+pub fn thawcopper_spelling(
     attr: u32,
     number: u32,
     names: &[u8],
@@ -207,8 +204,7 @@ fn convert_as(
 
 // Converts a table of the print room: the rows of the result go to the front of `out_rows`, the records
 // of its bindings to the front of `out_bindings`. A switch is on where it is not 0.
-#[unsafe(no_mangle)]
-pub extern "C" fn thawcopper_convert(
+pub fn thawcopper_convert(
     arrow: u32,
     async_to_generator: u32,
     async_generator_functions: u32,
@@ -231,8 +227,7 @@ pub extern "C" fn thawcopper_convert(
 
 // The same for either caller, by the bits of `options`: 1 arrow, 2 async-to-generator, 4 async
 // generators, 8 tablet. A bit without a name is not looked at.
-#[unsafe(no_mangle)]
-pub extern "C" fn thawcopper_convert_with(
+pub fn thawcopper_convert_with(
     options: u32,
     rows: &[u8],
     names: &[u8],

@@ -1,5 +1,7 @@
 // How many cases there are, and how many of them differ.
-ghost use Rattle.std.specs.Prelude.{◌≡◌, ◌+◌, ◌≤◌};
+ghost use Rattle.std.specs.Prelude.{◌≡◌, ◌+◌, ◌≤◌, IfOk};
+
+use std::io;
 
 #[derive(Clone, Copy)]
 pub struct Tally {
@@ -14,43 +16,38 @@ pub struct Turn {
     pub at: usize,
 }
 
-pub fn print_case(n: usize) {
-    io::write_all(1, b"case ");
-    io::print_decimal(1, n as u64);
-    io::write_all(1, b": ");
+pub fn print_case(rt: &impl Print, n: usize) -> io::Result<()> {
+    print!(rt; "case {n}: ")
 }
 
 // Data that cannot be read counts as a difference and ends the run, as no later case can be found.
-pub fn bad_data(n: usize, count: usize) -> Turn
-    ensures { (result.differ ≤ 1) × (result.at ≡ count) }
+pub fn bad_data(rt: &impl Print, n: usize, count: usize) -> io::Result<Turn>
+    ensures { IfOk result (λ turn. (turn.differ ≤ 1) × (turn.at ≡ count)) }
 {
-    print_case(n);
-    io::write_all(1, b"bad data\n");
-    Turn {
+    print_case(rt, n)?;
+    println!(rt; "bad data")?;
+    Ok(Turn {
         differ: 1,
         at: count,
-    }
+    })
 }
 
 // Input that is too long or has a byte out of place counts as a difference.
-pub fn whole(t: Tally, good: bool) -> Tally
+pub fn whole(rt: &impl Print, t: Tally, good: bool) -> io::Result<Tally>
     requires { t.differ ≤ 327680 }
 {
     if good {
-        return t;
+        return Ok(t);
     }
-    io::write_all(1, b"bad input\n");
-    Tally {
+    println!(rt; "bad input")?;
+    Ok(Tally {
         cases: t.cases,
         differ: t.differ + 1,
-    }
+    })
 }
 
-pub fn print_tally(t: Tally, what: &[u8]) {
-    io::print_decimal(1, t.cases as u64);
-    io::write_all(1, b" ");
-    io::write_all(1, what);
-    io::write_all(1, b", ");
-    io::print_decimal(1, t.differ as u64);
-    io::write_all(1, b" differ\n");
+pub fn print_tally(rt: &impl Print, t: Tally, what: &[u8]) -> io::Result<()> {
+    print!(rt; "{} ", t.cases)?;
+    rt.write_all(what)?;
+    println!(rt; ", {} differ", t.differ)
 }
