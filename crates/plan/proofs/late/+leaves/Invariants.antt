@@ -10,18 +10,9 @@ use borrow.Author.Rules.{rules}
 use Prim.Native.Nat.{ℕ, ◌+◌, ◌-◌, ◌<◌}
 use Rattle.plan.proofs.late.+leaves.Given as goal
 
--- abbrev μ-leaves : Measures 3 leaves-kinds.ps ℕ
--- μ-leaves κs a = a.1.1.1.1.1.1.1.0 - a.1.1.1.1.1.1.0
---
--- abbrev leaves_at : ℕ → In 3 leaves-kinds.ps
--- leaves_at t = and 3 leaves-kinds.ps (is 3 leaves-kinds.ps μ-leaves t) leaves.Pre
---
--- abbrev leaves-below : ℕ → In 3 leaves-kinds.ps
--- leaves-below t = and 3 leaves-kinds.ps (falls 3 leaves-kinds.ps ◌<◌ μ-leaves t) leaves.Pre
---
--- abbrev leaves-claims : ℕ → leaves-lts.Claims
--- leaves-claims t = (kind-at-reads.Asked, kind-at-reads.Learnt, end-at-reads.Asked, end-at-reads.Learnt, slot-reads.Asked, slot-reads.Learnt, row-act-reads.Asked, row-act-reads.Learnt, leaves-below t, leaves.Post)
---
+-- each call is for fewer rows
+abbrev pub decreases-leaves : goal.decreases-leaves
+decreases-leaves l = l.end - l.from
 
 abbrev pub invariant-loop-i : goal.invariant-loop-i
 invariant-loop-i l = Leaving (names_of l.names l.text) (switches_of l.switches) (words l.rows) (rows_in l.rows) (place_of l.initial.q) (place_of l.more) l.from l.end l.i (place_of l.q)
