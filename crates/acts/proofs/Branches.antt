@@ -18,7 +18,7 @@ use Rattle.passes.specs.declared.Becomes.{Becomes}
 use Rattle.acts.specs.declared.context.Context.{Context}
 use Rattle.acts.specs.declared.act.Act.{Act}
 use Rattle.acts.specs.View.{context_of}
-use Rattle.acts.specs.Deciding.{inside_of, spot_of, Does}
+use Rattle.acts.specs.Deciding.{inside_of, Does}
 
 -- an act of the code is the steps' act, part by part
 pub decided : (w : Switches) (c : Ctx) (A : StepsAct) (X : Op) (t t' : Turn) → A ≡ does X t t' → (r : Act) (op : Becomes) (one more : Context)

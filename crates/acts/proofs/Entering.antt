@@ -1,5 +1,5 @@
 -- One step inward, by the values that the code has. Assumes nothing.
-use mathlib.Core.Path.{◌≡◌, refl, ap, sym, ◌∙◌}
+use mathlib.Core.Path.{◌≡◌, refl}
 use mathlib.Core.Bool.{Bool, true, false, cond, not, ◌&&◌, ◌||◌, and-false}
 use Prim.Native.Nat.{ℕ}
 use Rattle.steps.specs.Mode.{Switches, bit, is_enabled, enabled, async_only, moves, moved_function, moved_arrow}

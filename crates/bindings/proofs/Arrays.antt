@@ -1,14 +1,13 @@
 -- The records in the array: reading them back after stores. Assumes nothing.
-use mathlib.Core.Path.{◌≡◌, refl, ap, sym, subst, ◌∙◌}
+use mathlib.Core.Path.{◌≡◌, refl, ap, sym, ◌∙◌}
 use mathlib.Core.List.{List, [], ◌∷◌, ◌++◌}
-use Prim.Native.Nat.{ℕ, zero, suc, ◌+◌, ◌*◌, ◌-◌, ◌<◌, ◌≤◌}
-use mathlib.Core.Bool.{Bool, true, false, cond}
+use Prim.Native.Nat.{ℕ, zero, suc, ◌+◌, ◌*◌, ◌<◌, ◌≤◌}
 use native.Mathlib.Omega.{arith}
-use native.Mathlib.Nat.{add-zero, zero-add}
-use lib.ListN.{length, drop, get_or, set, length-set}
+use native.Mathlib.Nat.{add-zero}
+use lib.ListN.{length, get_or, set, length-set}
 use lib.Seq.{get_or-set_same, get_or-set_other}
 use Rattle.steps.specs.Bindings.{Binding, Binding.bind}
-use Rattle.bindings.specs.Store.{use_at, property_at, frame_at, bind_at, binds_from, binds, pushed}
+use Rattle.bindings.specs.Store.{bind_at, binds_from, binds, pushed}
 
 pub binds-length : (M : List ℕ) (cap b n : ℕ) → length (binds_from M cap b n) ≡ n
 unfolding binds_from

@@ -1,23 +1,22 @@
 -- A capture more keeps the store. Assumes nothing.
 use mathlib.Core.Path.{◌≡◌, refl, ap, sym, subst, ◌∙◌}
 use mathlib.Core.List.{List, [], ◌∷◌, ◌++◌}
-use Prim.Native.Nat.{ℕ, zero, suc, ◌+◌, ◌*◌, ◌-◌, ◌<◌, ◌≤◌}
+use Prim.Native.Nat.{ℕ, ◌+◌, ◌*◌, ◌<◌, ◌≤◌}
 use mathlib.Core.Logic.{◌⊎◌, inl, inr, ⊎_elim}
-use mathlib.Core.Bool.{Bool, true, false, cond, ◌&&◌, ◌||◌, true≢false, false≢true, and-false}
+use mathlib.Core.Bool.{Bool, true, false, cond, true≢false}
 use native.Mathlib.Omega.{arith}
-use native.Mathlib.Nat.{add-zero}
-use borrow.Author.Tests.{eqb-true, eqb-false, ne_eqb, eq-eqb, ltb-true, ltb-false}
-use lib.Dec.{eqb, ltb}
+use borrow.Author.Tests.{eqb-true, eqb-false, ne_eqb, eq-eqb}
+use lib.Dec.{eqb}
 use lib.ListN.{length, drop, get_or, set, length-set, length-append}
-use lib.Seq.{get_or-set_same, get_or-set_other, drop-append-le, drop-length}
+use lib.Seq.{get_or-set_same, get_or-set_other}
 use Rattle.steps.specs.Bindings.{Binding, Binding.bind}
 use Rattle.buckets.specs.Search.{first_where}
-use Rattle.bindings.specs.Search.{capture_of, is_accessor, is_param, of_class, note_capture}
-use Rattle.bindings.specs.Store.{capture_table, bind_at, binds_from, binds, first_table, last_table, Bare, Store, pushed, captured, chained}
+use Rattle.bindings.specs.Search.{capture_of, of_class, note_capture}
+use Rattle.bindings.specs.Store.{capture_table, bind_at, binds, first_table, last_table, Bare, Store, pushed, captured}
 use Rattle.bindings.specs.Post.{Kept, Asked}
 use Rattle.buckets.proofs.Searches.{first-other}
-use Rattle.bindings.proofs.Arrays.{binds-length, binds-at, same-binds, pushed_long, pushed-later, pushed-binds, pushed_before, pushed-here}
-use Rattle.bindings.proofs.Storing.{bare_snoc, drop_snoc, drop-none, capture_class, capture_other, capture_frame, capture_same, first-kept, last-kept, first-set, last_set, behind, old_bind, new_bind, le_cases}
+use Rattle.bindings.proofs.Arrays.{binds-length, same-binds, pushed_long, pushed-later, pushed-binds}
+use Rattle.bindings.proofs.Storing.{bare_snoc, capture_class, capture_other, capture_frame, capture_same, first-kept, last-kept, first-set, behind, old_bind, new_bind, le_cases}
 
 -- A capture more: of `this` (u is 1) or of `arguments` (u is 2), at frame f, which has none yet.
 module _ (M : List ℕ) (cap count u f : ℕ) (S : Store M cap count) (low : count + 1 < cap) (fl : f < cap) (one-two : (u ≡ 1) ⊎ (u ≡ 2))

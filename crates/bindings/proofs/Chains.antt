@@ -1,9 +1,9 @@
 -- A chained binding more keeps the store: an accessor behind the last accessor of its frame, a parameter behind the last parameter. Assumes nothing.
 use mathlib.Core.Path.{◌≡◌, refl, ap, sym, subst, ◌∙◌}
 use mathlib.Core.List.{List, [], ◌∷◌, ◌++◌}
-use Prim.Native.Nat.{ℕ, zero, suc, ◌+◌, ◌*◌, ◌-◌, ◌<◌, ◌≤◌}
+use Prim.Native.Nat.{ℕ, suc, ◌+◌, ◌*◌, ◌-◌, ◌<◌, ◌≤◌}
 use mathlib.Core.Logic.{◌⊎◌, inl, inr, ⊎_elim}
-use mathlib.Core.Bool.{Bool, true, false, cond, ◌&&◌, ◌||◌, true≢false, false≢true, and-false}
+use mathlib.Core.Bool.{Bool, true, false, cond, ◌&&◌, ◌||◌, true≢false, false≢true}
 use native.Mathlib.Omega.{arith}
 use borrow.Author.Tests.{eqb-true, eqb-false, ne_eqb, eq-eqb}
 use lib.Dec.{eqb}
@@ -12,11 +12,11 @@ use lib.Seq.{get_or-set_same, get_or-set_other}
 use Rattle.steps.specs.Bindings.{Binding, Binding.bind}
 use Rattle.buckets.specs.Search.{first_where, last_where}
 use Rattle.bindings.specs.Search.{capture_of, is_accessor, is_param, of_class}
-use Rattle.bindings.specs.Store.{bind_at, binds_from, binds, first_table, last_table, Bare, Store, pushed, chained}
+use Rattle.bindings.specs.Store.{bind_at, binds, first_table, last_table, Bare, Store, pushed, chained}
 use Rattle.bindings.specs.Post.{Kept}
 use Rattle.buckets.proofs.Searches.{first-other, first_new, first-stays, none_alike, last_in, last-holds, chain_end}
 use Rattle.bindings.proofs.Arrays.{binds-length, binds-at, same-binds, pushed_long, pushed-later, pushed-binds}
-use Rattle.bindings.proofs.Storing.{first_range, last-range, bare_snoc, drop-none, first-kept, last-kept, first-set, last_set, behind, old_bind, new_bind, le_cases}
+use Rattle.bindings.proofs.Storing.{first_range, last-range, bare_snoc, drop-none, first-kept, last-kept, first-set, last_set, behind, old_bind, le_cases}
 
 -- an accessor is no parameter, and each binding has one frame
 uses_apart : (u : ℕ) → is_param u ≡ true → is_accessor u ≡ true → ⊥

@@ -1,18 +1,16 @@
 -- The parameters of a frame's accessors, by its chain. Assumes nothing.
 use mathlib.Core.Path.{◌≡◌, refl, ap, sym, subst, ◌∙◌}
 use mathlib.Core.List.{List, [], ◌∷◌, ◌++◌, append-nil, append_assoc}
-use Prim.Native.Nat.{ℕ, zero, suc, ◌+◌, ◌*◌, ◌-◌, ◌<◌, ◌≤◌}
-use mathlib.Core.Logic.{◌⊎◌, inl, inr, ⊎_elim}
-use mathlib.Core.Bool.{Bool, true, false, cond, ◌&&◌, ◌||◌, true≢false, false≢true, and-false}
+use Prim.Native.Nat.{ℕ, suc, ◌+◌, ◌*◌, ◌-◌, ◌<◌, ◌≤◌}
+use mathlib.Core.Bool.{Bool, true, false, cond, ◌&&◌, ◌||◌, and-false}
 use native.Mathlib.Omega.{arith}
-use native.Mathlib.Numerals.{add-one}
-use borrow.Author.Tests.{eqb-true, eqb-false, ne_eqb, eq-eqb}
+use borrow.Author.Tests.{eqb-true, ne_eqb}
 use lib.Dec.{eqb}
 use lib.ListN.{length, drop, get_or, length-append, length-drop, get_or-append}
 use lib.Seq.{drop-cons, drop-drop, drop-append-le, get_or-drop}
 use Rattle.steps.specs.Bindings.{Binding, Binding.bind, params_of}
 use Rattle.buckets.specs.Search.{first_where}
-use Rattle.bindings.specs.Search.{is_accessor, is_param, of_class, one_param, params_for}
+use Rattle.bindings.specs.Search.{is_accessor, of_class, one_param, params_for}
 use Rattle.bindings.specs.Store.{bind_at, binds, Store}
 use Rattle.bindings.specs.Post.{Kept, Asked, Room}
 use Rattle.buckets.proofs.Searches.{first-low, first-high, first_holds}

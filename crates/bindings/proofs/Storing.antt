@@ -1,21 +1,20 @@
 -- What stores keep: a capture more, a chained binding more. Assumes nothing.
-use mathlib.Core.Path.{◌≡◌, refl, ap, sym, subst, ◌∙◌}
+use mathlib.Core.Path.{◌≡◌, refl, ap, sym, ◌∙◌}
 use mathlib.Core.List.{List, [], ◌∷◌, ◌++◌}
 use Prim.Native.Nat.{ℕ, zero, suc, ◌+◌, ◌*◌, ◌-◌, ◌<◌, ◌≤◌}
-use mathlib.Core.Logic.{◌⊎◌, inl, inr, ⊎_elim}
-use mathlib.Core.Bool.{Bool, true, false, cond, ◌&&◌, ◌||◌, true≢false, false≢true, and-false}
+use mathlib.Core.Logic.{◌⊎◌, inl, inr}
+use mathlib.Core.Bool.{Bool, true, false, and-false}
 use native.Mathlib.Omega.{arith}
-use native.Mathlib.Nat.{add-zero}
-use borrow.Author.Tests.{eqb-true, eqb-false, ne_eqb, eq-eqb, ltb-true, ltb-false}
+use borrow.Author.Tests.{eq-eqb, ltb-true, ltb-false}
 use lib.Dec.{eqb, ltb}
-use lib.ListN.{length, drop, get_or, set, length-set, get_or-append}
-use lib.Seq.{get_or-set_same, get_or-set_other, drop-append-le, drop-length}
+use lib.ListN.{length, drop, get_or, get_or-append}
+use lib.Seq.{drop-append-le}
 use Rattle.steps.specs.Bindings.{Binding, Binding.bind}
 use Rattle.buckets.specs.Search.{first_where, last_where}
 use Rattle.bindings.specs.Search.{capture_of, is_accessor, is_param, of_class}
-use Rattle.bindings.specs.Store.{bind_at, binds_from, binds, first_table, last_table, Bare, Store, pushed, captured, chained}
+use Rattle.bindings.specs.Store.{bind_at, binds, first_table, last_table, Bare, Store}
 use Rattle.buckets.proofs.Searches.{first-other, last-other, first_new, last_new}
-use Rattle.bindings.proofs.Arrays.{binds-length, binds-at, same-binds, pushed_long, pushed-later, pushed-binds, pushed_before, pushed-here}
+use Rattle.bindings.proofs.Arrays.{binds-length, binds-at}
 
 -- where the tables of firsts and of lasts stand in the array
 pub first_range : (s : Bool) (cap g : ℕ) → g < cap → (6 * cap ≤ first_table s cap g) × (first_table s cap g < 10 * cap)

@@ -1,9 +1,9 @@
 -- The bindings in the first ten tables of a local array, of cap entries each (behind them two more, Filed.antt): the record's three words and the next of its chain, by binding number; the capture of `this` and of `arguments`,
 -- the first and last accessor and the first and last parameter, by frame. So that no number is searched for in the whole list. Assumes nothing.
-use Rattle.std.specs.Prelude.{◌≡◌, List, [], ◌∷◌, ℕ, zero, suc, ◌+◌, ◌*◌, ◌≤◌, ◌<◌, Bool, true, false, cond, get_or, length, drop, set, eqb}
+use Rattle.std.specs.Prelude.{◌≡◌, List, [], ◌∷◌, ℕ, zero, suc, ◌+◌, ◌*◌, ◌≤◌, ◌<◌, Bool, true, cond, get_or, length, drop, set, eqb}
 use Rattle.steps.specs.Bindings.{Binding, Binding.bind}
 use Rattle.buckets.specs.Search.{first_where, last_where}
-use Rattle.bindings.specs.Search.{capture_of, is_accessor, is_param, of_class}
+use Rattle.bindings.specs.Search.{capture_of, of_class}
 
 abbrev pub use_at : List ℕ → (cap b : ℕ) → ℕ
 use_at M cap b = get_or M b 0

@@ -1,5 +1,5 @@
 -- The tables of docs/DIFFERENCES.md, in the order of that page: where this port, the Rust and ECMA-262 part. Assumes nothing.
-use Rattle.std.specs.Prelude.{List, [], ◌∷◌, ◌++◌, ℕ, true, false}
+use Rattle.std.specs.Prelude.{List, [], ◌∷◌, ◌++◌, true, false}
 use Rattle.steps.specs.Mode.{switches}
 use Rattle.steps.specs.Outcome.{Outcome.refused, Outcome.converted}
 use Rattle.steps.specs.Tables.{Line.row, sheet, room, Plot}

@@ -1,27 +1,26 @@
 -- A table without a fault is the words of exactly one forest, and the forest is well-formed. Assumes nothing.
 use mathlib.Core.Path.{◌≡◌, refl, ap, sym, subst, ◌∙◌}
-use mathlib.Core.Bool.{Bool, true, false, cond, ◌&&◌}
+use mathlib.Core.Bool.{Bool, true, false, cond}
 use mathlib.Core.List.{List, [], ◌∷◌, ◌++◌, append-nil}
-use mathlib.Core.Logic.{◌⊎◌, inl, inr, ⊎_elim}
-use Prim.Native.Nat.{ℕ, zero, suc, ◌+◌, ◌*◌, ◌%◌, ◌-◌, ◌<◌, ◌≤◌}
+use mathlib.Core.Logic.{⊎_elim}
+use Prim.Native.Nat.{ℕ, zero, suc, ◌+◌, ◌*◌, ◌-◌, ◌<◌, ◌≤◌}
 use native.Mathlib.Omega.{arith}
 use native.Mathlib.Nat.{eq-or-lt_of_le}
 use borrow.Author.Tests.{eqb-true}
 use lib.Dec.{eqb}
-use lib.ListN.{get_or, length, length-append}
+use lib.ListN.{length, length-append}
 use lib.Seq.{slice, take_all}
 use Rattle.names.specs.Words.{kind_at, attr_at, name_at, end_at}
 use Rattle.grammar.specs.Grammar.{top_place}
-use Rattle.forest.specs.Forest.{Rows, none, node, size, count, flat, tree, rows_at, row_ok, WellFormed, Table}
+use Rattle.forest.specs.Forest.{Rows, none, node, size, count, flat, tree, rows_at, row_ok, Table}
 use Rattle.forest.specs.Nested.{Nested}
 use Rattle.forest.specs.Faults.{kids, kids_of}
-use Rattle.forest.specs.Told.{told_by, mark, marks, top_mark, fault_at, lowest_from, lowest_fault}
-use Rattle.forest.specs.declared.RowFault.{RowFault}
+use Rattle.forest.specs.Told.{told_by, fault_at, lowest_from, lowest_fault}
 use Rattle.forest.specs.declared.RowFault.TheVariants.{Fine, Bad}
 use Rattle.forest.proofs.Children.{kids-fuel}
 use Rattle.forest.proofs.Slices.{cons4}
 use Rattle.forest.proofs.Marks.{mark-place}
-use Rattle.forest.proofs.Nesting.{mark-good, tree-more, tree_done, Fit, fit, Part, Under, nest, says_first}
+use Rattle.forest.proofs.Nesting.{mark-good, tree-more, tree_done, Fit, fit, Under, nest, says_first}
 
 fine_cases : (ws : List ℕ) (n names f i F : ℕ) (b : Bool) → eqb F 0 ≡ b → cond b (lowest_from ws n names f (i + 1)) (Bad F i) ≡ Fine → (F ≡ 0) × (lowest_from ws n names f (i + 1) ≡ Fine)
 fine_cases ws n names f i F true q h = (eqb-true F 0 q, h)

@@ -1,11 +1,11 @@
 -- The children of a row, by hopping over ends. Assumes nothing.
 use mathlib.Core.Path.{◌≡◌, refl, ap, sym}
-use mathlib.Core.Bool.{Bool, true, false, cond, ◌&&◌}
+use mathlib.Core.Bool.{Bool, true, false, cond}
 use mathlib.Core.List.{List, [], ◌∷◌}
 use Prim.Native.Nat.{ℕ, zero, suc, ◌+◌, ◌<◌, ◌≤◌}
 use native.Mathlib.Omega.{arith}
 use borrow.Author.Tests.{lt-ltb, le-ltb, ltb-true, leb-true}
-use lib.Dec.{ltb, leb}
+use lib.Dec.{ltb}
 use Rattle.names.specs.Words.{end_at}
 use Rattle.forest.specs.Faults.{end_good, kids}
 use Rattle.names.proofs.Bools.{and_left, and_right}

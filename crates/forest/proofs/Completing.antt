@@ -1,28 +1,27 @@
 -- The words of a well-formed forest have no fault. Assumes nothing.
 use mathlib.Core.Path.{◌≡◌, refl, ap, sym, subst, ◌∙◌}
-use mathlib.Core.Bool.{Bool, true, false, cond, ◌&&◌, ◌||◌, not}
-use mathlib.Core.List.{List, [], ◌∷◌, ◌++◌}
-use mathlib.Core.Logic.{◌⊎◌, inl, inr, ⊎_elim}
-use Prim.Native.Nat.{ℕ, zero, suc, ◌+◌, ◌*◌, ◌%◌, ◌-◌, ◌<◌, ◌≤◌}
+use mathlib.Core.Bool.{Bool, true, ◌&&◌}
+use mathlib.Core.List.{List, ◌∷◌, ◌++◌}
+use mathlib.Core.Logic.{⊎_elim}
+use Prim.Native.Nat.{ℕ, zero, suc, ◌+◌, ◌*◌, ◌<◌, ◌≤◌}
 use native.Mathlib.Omega.{arith}
-use native.Mathlib.Nat.{zero-add, eq-or-lt_of_le}
+use native.Mathlib.Nat.{eq-or-lt_of_le}
 use borrow.Author.Tests.{lt-ltb, le-leb, eq-eqb}
-use lib.Dec.{eqb, ltb, leb, lit<}
-use lib.ListN.{get_or, length}
+use lib.Dec.{eqb, lit<}
+use lib.ListN.{length}
 use lib.Seq.{slice, length-slice, take_all}
 use Rattle.names.specs.Words.{kind_at, attr_at, name_at, end_at}
 use Rattle.grammar.specs.Grammar.{top_place, place_of, kind_ok, attr_ok, fits, count_ok, name_ok}
 use Rattle.forest.specs.Forest.{Rows, none, node, size, count, flat, row_ok, WellFormed, Table}
 use Rattle.forest.specs.Faults.{end_good, kids, kids_of, early_fault, late_fault, fault_of}
-use Rattle.forest.specs.Told.{told_by, mark, marks, top_mark, mark_at, fault_at, lowest_from, lowest_fault}
-use Rattle.forest.specs.declared.RowFault.{RowFault}
-use Rattle.forest.specs.declared.RowFault.TheVariants.{Fine, Bad}
+use Rattle.forest.specs.Told.{told_by, marks, top_mark, fault_at, lowest_from, lowest_fault}
+use Rattle.forest.specs.declared.RowFault.TheVariants.{Fine}
 use Rattle.names.proofs.Bools.{and_left, and_right, and_both, lt_or_ge}
 use Rattle.forest.proofs.Children.{kids-good, kids_done, kids-fuel}
 use Rattle.forest.proofs.Telling.{told_child, tells_next}
 use Rattle.forest.proofs.Slices.{cons4, split}
 use Rattle.grammar.proofs.Places.{place-small}
-use Rattle.forest.proofs.Nesting.{Before, before_next, within-next, met, Says, says_first}
+use Rattle.forest.proofs.Nesting.{Before, before_next, within-next, Says, says_first}
 use Rattle.forest.proofs.Accepting.{length-flat, append-same}
 use Rattle.forest.proofs.Descent.{fault-by}
 

@@ -1,20 +1,19 @@
 -- The lowest row with a fault, as the visit of the rows in order finds it, is the first fault of the descent from row 0. Assumes nothing.
-use mathlib.Core.Path.{◌≡◌, refl, ap, sym, subst, ◌∙◌}
-use mathlib.Core.Bool.{Bool, true, false, cond, ◌&&◌, not}
-use mathlib.Core.List.{List, [], ◌∷◌}
+use mathlib.Core.Path.{◌≡◌, refl, ap, sym, ◌∙◌}
+use mathlib.Core.Bool.{Bool, true, false, cond, ◌&&◌}
+use mathlib.Core.List.{List}
 use mathlib.Core.Logic.{◌⊎◌, inl, inr, ⊎_elim}
-use Prim.Native.Nat.{ℕ, zero, suc, ◌+◌, ◌*◌, ◌%◌, ◌-◌, ◌<◌, ◌≤◌}
+use Prim.Native.Nat.{ℕ, zero, suc, ◌+◌, ◌%◌, ◌-◌, ◌<◌, ◌≤◌}
 use native.Mathlib.Omega.{arith}
-use borrow.Author.Tests.{lt-ltb, le-ltb, le-leb, leb-true, eqb-true}
+use borrow.Author.Tests.{lt-ltb, le-ltb, le-leb, eqb-true}
 use lib.Dec.{eqb, ltb, leb, lit<}
-use lib.ListN.{length}
-use Rattle.names.specs.Words.{kind_at, attr_at, name_at, end_at}
+use Rattle.names.specs.Words.{kind_at, attr_at, end_at}
 use Rattle.grammar.specs.Grammar.{top_place, place_of}
-use Rattle.forest.specs.Faults.{end_good, kids, kids_of, fault_of, early_fault, told, or_else, fault_from, first_fault}
+use Rattle.forest.specs.Faults.{end_good, fault_of, told, or_else, fault_from, first_fault}
 use Rattle.forest.specs.Told.{told_by, mark, marks, top_mark, mark_at, fault_at, lowest_from, lowest_fault}
 use Rattle.forest.specs.declared.RowFault.{RowFault}
 use Rattle.forest.specs.declared.RowFault.TheVariants.{Fine, Bad}
-use Rattle.names.proofs.Bools.{lt_or_ge, and_right}
+use Rattle.names.proofs.Bools.{lt_or_ge}
 use Rattle.forest.proofs.Children.{good-past, good-within}
 use Rattle.forest.proofs.Telling.{told_child, tells_next}
 use Rattle.forest.proofs.Visits.{early_none}

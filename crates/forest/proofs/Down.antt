@@ -1,17 +1,17 @@
 -- What each row of a table without a fault has been told by its parent is what goes down its forest. Assumes nothing.
-use mathlib.Core.Path.{◌≡◌, refl, ap, sym, subst, ◌∙◌}
-use mathlib.Core.Bool.{Bool, true, false, cond, ◌&&◌}
-use mathlib.Core.List.{List, [], ◌∷◌, ◌++◌}
+use mathlib.Core.Path.{◌≡◌, refl, ap, sym, ◌∙◌}
+use mathlib.Core.Bool.{true}
+use mathlib.Core.List.{List, ◌∷◌, ◌++◌}
 use mathlib.Core.Logic.{◌⊎◌, inl, inr, ⊎_elim}
-use Prim.Native.Nat.{ℕ, zero, suc, ◌+◌, ◌*◌, ◌-◌, ◌<◌, ◌≤◌}
+use Prim.Native.Nat.{ℕ, zero, suc, ◌+◌, ◌-◌, ◌<◌, ◌≤◌}
 use native.Mathlib.Omega.{arith}
 use native.Mathlib.Nat.{eq-or-lt_of_le}
 use lib.ListN.{get_or, length, length-append, get_or-append}
 use lib.Seq.{get_or-append-add}
-use Rattle.names.specs.Words.{kind_at, attr_at, name_at, end_at}
+use Rattle.names.specs.Words.{kind_at, attr_at, end_at}
 use Rattle.forest.specs.Forest.{Rows, none, node, size, tree, down}
-use Rattle.forest.specs.Faults.{end_good, kids, kids_of}
-use Rattle.forest.specs.Nested.{Nested, Range}
+use Rattle.forest.specs.Faults.{end_good, kids_of}
+use Rattle.forest.specs.Nested.{Nested}
 use Rattle.forest.specs.Told.{told_in, told_by}
 use Rattle.names.proofs.Bools.{lt_or_ge, and_both}
 use Rattle.forest.proofs.Children.{kids-fuel}

@@ -1,19 +1,17 @@
 -- Tests of every row of a table, over its words and over its forest: depth, and kind and attr. Assumes nothing.
-use mathlib.Core.Path.{◌≡◌, refl, ap, sym, subst, ◌∙◌}
-use mathlib.Core.Bool.{Bool, true, false, cond}
-use mathlib.Core.List.{List, [], ◌∷◌, ◌++◌}
+use mathlib.Core.Path.{◌≡◌, sym, subst}
+use mathlib.Core.Bool.{Bool, false}
+use mathlib.Core.List.{List, ◌∷◌, ◌++◌}
 use mathlib.Core.Logic.{⊎_elim}
-use Prim.Native.Nat.{ℕ, zero, suc, ◌+◌, ◌*◌, ◌-◌, ◌<◌, ◌≤◌}
+use Prim.Native.Nat.{ℕ, zero, suc, ◌+◌, ◌-◌, ◌<◌, ◌≤◌}
 use native.Mathlib.Omega.{arith}
 use native.Mathlib.Nat.{eq-or-lt_of_le}
-use borrow.Author.Tests.{ltb-true, ltb-false, le-ltb}
-use lib.Dec.{ltb}
 use lib.ListN.{get_or, length, length-append, get_or-append}
 use lib.Seq.{get_or-append-add}
 use Rattle.names.specs.Words.{kind_at, attr_at, name_at, end_at}
 use Rattle.forest.specs.Forest.{Rows, none, node, size, tree, rows_at, down, DepthWithin, NoRow}
 use Rattle.forest.specs.Nested.{Nested, Range}
-use Rattle.forest.specs.Told.{deeper, depth_at}
+use Rattle.forest.specs.Told.{depth_at}
 use Rattle.names.proofs.Bools.{lt_or_ge}
 use Rattle.forest.proofs.Nesting.{tree-more, tree_done}
 use Rattle.forest.proofs.Down.{down-long, told-down}

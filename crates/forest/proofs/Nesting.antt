@@ -1,20 +1,20 @@
 -- Where no row has a fault, the rows nest: each row's children, and all below them, are the words of a well-formed forest. Assumes nothing.
 use mathlib.Core.Path.{◌≡◌, refl, ap, sym, subst, ◌∙◌}
-use mathlib.Core.Bool.{Bool, true, false, cond, ◌&&◌, ◌||◌, not}
-use mathlib.Core.List.{List, [], ◌∷◌, ◌++◌}
-use mathlib.Core.Logic.{◌⊎◌, inl, inr, ⊎_elim}
-use Prim.Native.Nat.{ℕ, zero, suc, ◌+◌, ◌*◌, ◌%◌, ◌-◌, ◌<◌, ◌≤◌}
+use mathlib.Core.Bool.{Bool, true, false}
+use mathlib.Core.List.{List, ◌∷◌, ◌++◌}
+use mathlib.Core.Logic.{⊎_elim}
+use Prim.Native.Nat.{ℕ, zero, suc, ◌+◌, ◌*◌, ◌%◌, ◌<◌, ◌≤◌}
 use native.Mathlib.Omega.{arith}
 use native.Mathlib.Nat.{le_trans, eq-or-lt_of_le}
 use borrow.Author.Tests.{lt-ltb, le-ltb, ltb-true, leb-true}
-use lib.Dec.{ltb, leb}
-use lib.ListN.{get_or, length}
+use lib.Dec.{ltb}
+use lib.ListN.{length}
 use lib.Seq.{slice, slice_empty}
 use Rattle.names.specs.Words.{kind_at, attr_at, name_at, end_at}
-use Rattle.grammar.specs.Grammar.{place_of, kind_ok, attr_ok, fits, count_ok, name_ok}
+use Rattle.grammar.specs.Grammar.{place_of, fits}
 use Rattle.forest.specs.Forest.{Rows, none, node, size, count, flat, tree, row_ok, WellFormed}
-use Rattle.forest.specs.Faults.{end_good, kids, kids_of, late_fault, fault_of}
-use Rattle.forest.specs.Told.{told_in, told_by, mark, marks, top_mark, mark_at, fault_at}
+use Rattle.forest.specs.Faults.{end_good, kids, kids_of, fault_of}
+use Rattle.forest.specs.Told.{told_in, mark, marks, top_mark, mark_at, fault_at}
 use Rattle.names.proofs.Bools.{and_left, and_right, and_both, lt_or_ge}
 use Rattle.forest.proofs.Children.{good-past, good-within, kids-good, kids_done, kids-fuel}
 use Rattle.forest.proofs.Telling.{heard, Tells, told_child, tells_next}

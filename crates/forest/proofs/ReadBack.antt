@@ -1,15 +1,15 @@
 -- The words of a forest read back as that forest. Assumes nothing.
-use mathlib.Core.Path.{◌≡◌, refl, ap, sym, subst, ◌∙◌}
+use mathlib.Core.Path.{◌≡◌, sym, ◌∙◌}
 use mathlib.Core.List.{List}
-use Prim.Native.Nat.{ℕ, zero, suc, ◌+◌, ◌*◌, ◌-◌, ◌<◌, ◌≤◌}
+use Prim.Native.Nat.{ℕ, zero, suc, ◌+◌, ◌*◌, ◌-◌, ◌≤◌}
 use native.Mathlib.Omega.{arith}
 use lib.ListN.{length}
 use lib.Seq.{slice, take_all}
-use Rattle.names.specs.Words.{kind_at, attr_at, name_at, end_at}
+use Rattle.names.specs.Words.{end_at}
 use Rattle.forest.specs.Forest.{Rows, none, node, size, flat, tree, rows_at}
 use Rattle.forest.proofs.Nesting.{tree-more, tree_done}
 use Rattle.forest.proofs.Accepting.{length-flat}
-use Rattle.forest.proofs.Completing.{Fields, fields}
+use Rattle.forest.proofs.Completing.{fields}
 
 -- rows c up to e, where their words are those of the forest g
 tree_is : (g : Rows) (ws : List ℕ) (f c e : ℕ) → c + size g ≡ e → e ≤ c + f → 4 * e ≤ length ws → flat c g ≡ slice (4 * c) (4 * e) ws → tree ws f c e ≡ g

@@ -2,7 +2,7 @@
 use mathlib.Core.Path.{◌≡◌, refl, ap, sym, ◌∙◌}
 use mathlib.Core.Bool.{Bool, true, false, cond, ◌&&◌, not}
 use mathlib.Core.List.{List}
-use Prim.Native.Nat.{ℕ, zero, suc, ◌+◌, ◌*◌, ◌%◌, ◌<◌, ◌≤◌}
+use Prim.Native.Nat.{ℕ, zero, suc, ◌+◌, ◌%◌, ◌<◌, ◌≤◌}
 use native.Mathlib.Omega.{arith}
 use native.Mathlib.Nat.{zero-add, add-zero}
 use borrow.Author.Tests.{leb-true, ne_eqb}
@@ -12,7 +12,6 @@ use Rattle.names.specs.Words.{kind_at, attr_at, name_at, end_at}
 use Rattle.grammar.specs.Grammar.{place_of, kind_ok, attr_ok, fits, count_ok, name_ok, made_row}
 use Rattle.forest.specs.Faults.{kids, kids_of, early_fault, late_fault, fault_of}
 use Rattle.forest.specs.Told.{told_in, told_by, says, marks, top_mark, mark_at, fault_at, lowest_from, lowest_fault}
-use Rattle.forest.specs.declared.RowFault.{RowFault}
 use Rattle.forest.specs.declared.RowFault.TheVariants.{Fine, Bad}
 use Rattle.names.proofs.Bools.{and_left, and_right}
 use Rattle.forest.proofs.Telling.{told-on}

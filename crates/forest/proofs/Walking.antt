@@ -1,13 +1,13 @@
 -- The forest of rows i up to e, one row at a time: the laws that walkers use. Assumes nothing.
 use mathlib.Core.Path.{◌≡◌, refl, sym, ◌∙◌}
-use mathlib.Core.Bool.{Bool, true, false, cond}
+use mathlib.Core.Bool.{Bool, true, false}
 use mathlib.Core.List.{List}
 use Prim.Native.Nat.{ℕ, zero, suc, ◌+◌, ◌-◌, ◌≤◌, ◌<◌}
 use native.Mathlib.Omega.{arith}
 use lib.Dec.{ltb}
 use borrow.Author.Tests.{lt-ltb, ltb-true}
 use Rattle.names.specs.Words.{kind_at, attr_at, name_at, end_at}
-use Rattle.forest.specs.Forest.{Rows, none, node, tree, rows_at}
+use Rattle.forest.specs.Forest.{none, node, tree, rows_at}
 use Rattle.forest.specs.Nested.{Nested, Range}
 use Rattle.forest.proofs.Nesting.{tree_done}
 

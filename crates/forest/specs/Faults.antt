@@ -1,5 +1,5 @@
 -- What is wrong with a row, over any words, and the first row with which something is wrong. Assumes nothing.
-use Rattle.std.specs.Prelude.{ℕ, zero, suc, ◌+◌, Bool, true, false, cond, not, ◌&&◌, List, [], ◌∷◌, length, eqb, ltb, leb}
+use Rattle.std.specs.Prelude.{ℕ, zero, suc, ◌+◌, Bool, cond, not, ◌&&◌, List, [], ◌∷◌, length, eqb, ltb, leb}
 use Rattle.names.specs.Words.{kind_at, attr_at, name_at, end_at}
 use Rattle.grammar.specs.Grammar.{top_place, place_of, kind_ok, attr_ok, fits, count_ok, name_ok}
 use Rattle.forest.specs.declared.RowFault.{RowFault}

@@ -1,10 +1,10 @@
 -- What each row is told by its parent, over any words, as a visit of the rows in order finds it: each row tells its children, which it finds by hopping over ends.
 -- A row's parent is the last row before it among whose children it is. Assumes nothing.
-use Rattle.std.specs.Prelude.{◌≡◌, ℕ, zero, suc, ◌+◌, ◌%◌, ◌≤◌, Bool, true, false, cond, ◌&&◌, List, [], ◌∷◌, eqb, ltb, leb, length, get_or}
+use Rattle.std.specs.Prelude.{◌≡◌, ℕ, zero, suc, ◌+◌, ◌%◌, ◌≤◌, Bool, cond, ◌&&◌, List, [], ◌∷◌, eqb, ltb, leb, length, get_or}
 use Rattle.names.specs.Words.{kind_at, attr_at, end_at}
 use Rattle.grammar.specs.Grammar.{top_place, place_of}
 use Rattle.names.specs.First.{first}
-use Rattle.forest.specs.Faults.{kids_of, end_good, fault_of, told}
+use Rattle.forest.specs.Faults.{kids_of, end_good, fault_of}
 use Rattle.names.specs.declared.Found.{Found}
 use Rattle.forest.specs.declared.RowFault.{RowFault}
 use Rattle.forest.specs.declared.RowFault.TheVariants.{Fine, Bad}

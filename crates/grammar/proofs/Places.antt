@@ -1,10 +1,10 @@
 -- Places. Assumes nothing.
 use mathlib.Core.Path.{◌≡◌, refl, sym, subst}
 use mathlib.Core.Bool.{Bool, true, false, cond, ◌&&◌, ◌||◌, false≢true}
-use Prim.Native.Nat.{ℕ, ◌+◌, ◌%◌, ◌<◌, ◌≤◌}
+use Prim.Native.Nat.{ℕ, ◌<◌, ◌≤◌}
 use native.Mathlib.Omega.{arith}
-use borrow.Author.Tests.{lt-ltb, le-ltb, leb-true, eqb-true, ne_eqb}
-use lib.Dec.{eqb, ltb, leb, lit<}
+use borrow.Author.Tests.{leb-true, eqb-true, ne_eqb}
+use lib.Dec.{eqb, leb, lit<}
 use Rattle.grammar.specs.Kinds.{ExprStmt, Var, Declarator, Return, Other, Opaque, Member, Computed, Call, Assign, Arrow, Function, Params, Class, Method, Field, Object, Property, Sequence, Target}
 use Rattle.grammar.specs.Grammar.{list_kind, bit0, bit1, place_of, place_in_function, place_in_class}
 

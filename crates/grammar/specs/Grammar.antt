@@ -1,5 +1,5 @@
 -- The grammar of section "Rows": what stands where, attr, name, number of children. Assumes nothing.
-use Rattle.std.specs.Prelude.{ℕ, ◌+◌, ◌*◌, ◌/◌, ◌%◌, Bool, true, false, cond, ◌||◌, ◌&&◌, not, eqb, ltb, leb}
+use Rattle.std.specs.Prelude.{ℕ, ◌+◌, ◌/◌, ◌%◌, Bool, cond, ◌||◌, ◌&&◌, not, eqb, ltb, leb}
 use Rattle.grammar.specs.Kinds.{Program, ExprStmt, Var, Declarator, Return, Block, Other, Opaque, This, Super, Ident, Member, Computed, Call, Assign, Arrow, Function, Params, Body, Class, Method, Field, StaticBlock, Object, Property, Sequence, Arguments, Target}
 
 abbrev pub bit0 : ℕ → Bool

@@ -1,10 +1,9 @@
 -- Word k of the words of a list of bytes. Assumes nothing.
-use mathlib.Core.Path.{◌≡◌, refl, ap, sym, ◌∙◌}
+use mathlib.Core.Path.{◌≡◌, refl, ◌∙◌}
 use mathlib.Core.List.{List, [], ◌∷◌}
-use Prim.Native.Nat.{ℕ, zero, suc, ◌+◌, ◌*◌, ◌<◌, ◌≤◌}
+use Prim.Native.Nat.{ℕ, zero, suc, ◌+◌, ◌*◌, ◌<◌}
 use native.Mathlib.Omega.{arith}
-use native.Mathlib.Numerals.{add-one, add-two, add-three, add-four}
-use native.Mathlib.Nat.{mul-suc, add-suc, mul-zero}
+use native.Mathlib.Numerals.{add-one, add-two, add-three}
 use lib.ListN.{get_or, length}
 use Rattle.names.specs.Words.{word_at, words}
 

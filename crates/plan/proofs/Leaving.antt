@@ -8,7 +8,7 @@ use borrow.Author.Tests.{ltb-true, ltb-false, ne_eqb, eq-eqb}
 use lib.Dec.{eqb, ltb}
 use Rattle.grammar.specs.Kinds.{Super, Function}
 use Rattle.names.specs.Words.{kind_at, attr_at, name_at, end_at}
-use Rattle.forest.specs.Forest.{Rows, Rows.none, size, rows_at}
+use Rattle.forest.specs.Forest.{Rows, size, rows_at}
 use Rattle.forest.specs.Nested.{Nested, Range}
 use Rattle.forest.proofs.Walking.{rows_none, inner, later, rows_step}
 use Rattle.steps.specs.Mode.{Switches, bit}

@@ -1,7 +1,7 @@
 -- The acts of the kinds that are met often: what the steps do with a row of each, and that an act of the code is that. Assumes nothing.
-use mathlib.Core.Path.{◌≡◌, refl, sym, subst}
+use mathlib.Core.Path.{◌≡◌, sym, subst}
 use mathlib.Core.Bool.{Bool, true, false}
-use Prim.Native.Nat.{ℕ, ◌<◌}
+use Prim.Native.Nat.{ℕ}
 use Rattle.forest.specs.Forest.{Rows}
 use Rattle.steps.specs.Mode.{Switches, bit}
 use Rattle.steps.specs.Paths.{Step.along}

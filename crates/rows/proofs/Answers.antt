@@ -1,9 +1,9 @@
 -- Of the answer: its place is a name or a row of the table. Of a well-formed row: its name is one of the table's. Assumes nothing.
-use mathlib.Core.Path.{◌≡◌, refl, sym, ap, subst, ◌∙◌}
+use mathlib.Core.Path.{◌≡◌, refl, sym, subst, ◌∙◌}
 use mathlib.Core.Bool.{Bool, true, false, cond, ◌&&◌, ◌||◌, not}
 use mathlib.Core.List.{List}
 use mathlib.Core.Logic.{◌⊎◌, inl, inr, ⊎_elim}
-use Prim.Native.Nat.{ℕ, zero, suc, ◌+◌, ◌*◌, ◌/◌, ◌<◌, ◌≤◌}
+use Prim.Native.Nat.{ℕ, zero, suc, ◌+◌, ◌<◌, ◌≤◌}
 use native.Mathlib.Omega.{arith}
 use borrow.Author.Tests.{ltb-true, leb-true, eqb-true}
 use lib.Dec.{eqb, ltb, leb}
@@ -22,7 +22,6 @@ use Rattle.forest.specs.declared.RowFault.{RowFault}
 use Rattle.forest.specs.declared.RowFault.TheVariants.{Fine, Bad}
 use Rattle.rows.specs.declared.Checked.{Checked}
 use Rattle.rows.specs.declared.Checked.TheVariants.{Sound, Malformed}
-use Rattle.names.proofs.Bools.{and_left, and_right}
 use Rattle.names.proofs.Seeking.{first_below}
 use Rattle.forest.proofs.Descent.{first-lowest}
 use Rattle.rows.proofs.Ordering.{SizesOk, good-sizes}

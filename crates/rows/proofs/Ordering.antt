@@ -1,14 +1,14 @@
 -- The refusals in their order, by what each of the searches answers; and what the sizes give. Assumes nothing.
-use mathlib.Core.Path.{◌≡◌, refl, ap, sym, ◌∙◌}
-use mathlib.Core.Bool.{Bool, true, false, cond, ◌&&◌}
+use mathlib.Core.Path.{◌≡◌, ap, sym, ◌∙◌}
+use mathlib.Core.Bool.{Bool, true, false, ◌&&◌}
 use mathlib.Core.List.{List}
-use Prim.Native.Nat.{ℕ, zero, suc, ◌+◌, ◌*◌, ◌/◌, ◌%◌, ◌<◌, ◌≤◌}
+use Prim.Native.Nat.{ℕ, ◌*◌, ◌%◌, ◌<◌, ◌≤◌}
 use native.Mathlib.Omega.{arith}
 use borrow.Author.Tests.{ltb-true, leb-true, eqb-true, lt-ltb, le-leb, eq-eqb}
 use lib.ListN.{length}
 use lib.Dec.{eqb, ltb, leb}
 use Rattle.names.specs.Words.{words, end_at, rows_in, names_in}
-use Rattle.names.specs.Names.{names_fit, first_bad_name}
+use Rattle.names.specs.Names.{first_bad_name}
 use Rattle.forest.specs.Faults.{first_fault}
 use Rattle.forest.specs.Told.{first_deep}
 use Rattle.rows.specs.Sound.{GoodSizes}

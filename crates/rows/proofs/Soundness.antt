@@ -1,21 +1,17 @@
 -- The checks accept exactly the tables that `SoundTable` describes: `sound` one way, `accepts` the other. Assumes nothing.
 use mathlib.Core.Path.{◌≡◌, refl, ap, sym, subst, ◌∙◌}
-use mathlib.Core.Bool.{Bool, true, false, cond, ◌&&◌, ◌||◌, not}
+use mathlib.Core.Bool.{Bool, true, false, cond}
 use mathlib.Core.List.{List, [], ◌∷◌}
-use Prim.Native.Nat.{ℕ, zero, suc, ◌+◌, ◌*◌, ◌/◌, ◌%◌, ◌-◌, ◌<◌, ◌≤◌}
+use Prim.Native.Nat.{ℕ, zero, suc, ◌*◌, ◌<◌, ◌≤◌}
 use native.Mathlib.Omega.{arith}
-use borrow.Author.Tests.{ltb-false, le-ltb, eqb-false, ne_eqb, ltb-true, leb-true, not-false}
-use lib.Dec.{eqb, ltb, leb}
-use lib.ListN.{get_or, length, take, drop}
-use Rattle.names.specs.Words.{words, kind_at, attr_at, name_at, end_at, rows_in, names_in}
-use Rattle.grammar.specs.Kinds.{Declarator, Ident, Member, Function, Class, Other, Opaque}
+use borrow.Author.Tests.{ltb-false, le-ltb}
+use lib.ListN.{length}
+use Rattle.names.specs.Words.{words, rows_in, names_in}
 use Rattle.names.specs.Names.{bad_name, first_bad_name, GoodName}
-use Rattle.names.specs.Utf8.{utf8}
-use Rattle.grammar.specs.Grammar.{made_row, names_one, name_ok}
-use Rattle.forest.specs.Forest.{Rows, none, node, size, flat, tree, rows_at, table, Table, DepthWithin, NoRow}
+use Rattle.grammar.specs.Grammar.{made_row}
+use Rattle.forest.specs.Forest.{Rows, size, flat, table, Table, DepthWithin, NoRow}
 use Rattle.forest.specs.Nested.{Nested}
 use Rattle.forest.specs.Faults.{first_fault}
-use Rattle.names.specs.First.{first}
 use Rattle.forest.specs.Told.{depth_at, first_deep, lowest_fault}
 use Rattle.rows.specs.Sound.{GoodSizes, SoundTable}
 use Rattle.rows.specs.Refusals.{limited, sizes_ok, first_made, unless_named, unless_fault, unless_deep, unless_made, checked}
@@ -24,8 +20,7 @@ use Rattle.names.specs.declared.Found.TheVariants.{At, Nothing}
 use Rattle.forest.specs.declared.RowFault.{RowFault}
 use Rattle.forest.specs.declared.RowFault.TheVariants.{Fine, Bad}
 use Rattle.rows.specs.declared.Checked.{Checked}
-use Rattle.rows.specs.declared.Checked.TheVariants.{Sound, Malformed, BadName, BadRow, TooDeep, MadeBinding}
-use Rattle.names.proofs.Bools.{and_left, and_right}
+use Rattle.rows.specs.declared.Checked.TheVariants.{Sound, Malformed}
 use Rattle.names.proofs.Seeking.{first-none, none_first}
 use Rattle.names.proofs.GoodNames.{good-name, name-good}
 use Rattle.forest.proofs.Nesting.{Fit}

@@ -1,5 +1,5 @@
 -- Refusals 1, 4, 21 to 25, 3 and 5 of section "Turned away", in the order in which they are tested. Assumes nothing.
-use Rattle.std.specs.Prelude.{ℕ, ◌+◌, ◌*◌, ◌/◌, ◌%◌, min, ◌≡◌, Bool, true, false, cond, ◌&&◌, List, length, eqb, ltb, leb}
+use Rattle.std.specs.Prelude.{ℕ, ◌*◌, ◌%◌, min, Bool, cond, ◌&&◌, List, length, eqb, ltb, leb}
 use Rattle.names.specs.Words.{words, kind_at, attr_at, rows_in, names_in}
 use Rattle.names.specs.First.{first}
 use Rattle.names.specs.Names.{names_fit, first_bad_name}

@@ -1,5 +1,5 @@
 -- What a table that the checks accept is, for the layers above: they use these facts and need not see how the check works. Assumes nothing.
-use Rattle.std.specs.Prelude.{ℕ, ◌*◌, ◌/◌, ◌≤◌, ◌<◌, ◌≡◌, List, length}
+use Rattle.std.specs.Prelude.{ℕ, ◌*◌, ◌≤◌, ◌<◌, ◌≡◌, List, length}
 use Rattle.names.specs.Words.{words, rows_in, names_in}
 use Rattle.names.specs.Names.{GoodName}
 use Rattle.grammar.specs.Grammar.{made_row}

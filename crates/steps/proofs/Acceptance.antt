@@ -1,17 +1,17 @@
 -- What acceptance gives, over the bytes lent: the owner rule (demand 3) and the bounds. Assumes nothing.
 use mathlib.Core.Path.{◌≡◌, refl, ap, sym, subst, ◌∙◌}
-use mathlib.Core.List.{List, [], ◌∷◌}
-use Prim.Native.Nat.{ℕ, zero, suc, ◌+◌, ◌*◌, ◌/◌, ◌≤◌, ◌<◌, ◌^◌}
+use mathlib.Core.List.{List}
+use Prim.Native.Nat.{ℕ, ◌+◌, ◌*◌, ◌≤◌, ◌<◌, ◌^◌}
 use mathlib.Core.Bool.{Bool, true, false, cond, ◌&&◌}
 use lib.Dec.{leb}
 use lib.ListN.{length}
 use native.Mathlib.Omega.{arith}
 use borrow.Author.Tests.{leb-true, le-leb}
-use Rattle.names.specs.Words.{words, rows_in, names_in}
+use Rattle.names.specs.Words.{rows_in, names_in}
 use Rattle.forest.specs.Forest.{Rows, Rows.none, Rows.node, size, flat, table}
-use Rattle.rows.specs.Sound.{SoundTable, GoodSizes}
+use Rattle.rows.specs.Sound.{SoundTable}
 use Rattle.names.specs.Names.{same_name, bytes_of, same_bytes}
-use Rattle.rows.specs.Refusals.{checked, limited, number_of, place_for}
+use Rattle.rows.specs.Refusals.{checked}
 use Rattle.names.specs.declared.Found.{Found}
 use Rattle.names.specs.declared.Found.TheVariants.{At, Nothing}
 use Rattle.rows.specs.declared.Checked.{Checked}
@@ -20,14 +20,13 @@ use Rattle.forest.proofs.Accepting.{length-flat}
 use Rattle.rows.proofs.Soundness.{sound, words_long}
 use Rattle.steps.specs.Mode.{Switches}
 use Rattle.steps.specs.Naming.{Names, same_as}
-use Rattle.steps.specs.Bindings.{Binding}
 use Rattle.steps.specs.Steps.{Result, steps}
 use Rattle.steps.specs.Refusals.{six, seven, eight}
 use Rattle.steps.specs.Outcome.{Outcome, Outcome.refused, Outcome.converted, Room, names_of, records, unless_refused, unless_at, within, outcome}
 use Rattle.steps.specs.Accepted.{Accepted}
 use Rattle.steps.specs.Owners.{OwnersKept, Calm, Home.at_top, home_one, home_more, builder, arrows_on}
 use Rattle.steps.proofs.Records.{AllSound}
-use Rattle.steps.proofs.Shaped.{Rooted, rooted, Shaped}
+use Rattle.steps.proofs.Shaped.{Rooted, rooted}
 use Rattle.steps.proofs.Bounds.{Bounded, bounded, kept}
 
 -- name 0 is the same as name 0

@@ -1,8 +1,7 @@
 -- The bounds of the steps, and demand 3, for rows under Program. Assumes nothing.
-use mathlib.Core.Path.{◌≡◌, refl, sym, subst}
-use mathlib.Core.List.{List, [], ◌∷◌}
+use mathlib.Core.Path.{◌≡◌, refl}
 use Prim.Native.Nat.{ℕ, ◌+◌, ◌*◌, ◌≤◌, ◌<◌, ◌^◌}
-use mathlib.Core.Bool.{Bool, true, false, cond, ◌||◌}
+use mathlib.Core.Bool.{Bool, true, false, ◌||◌}
 use lib.ListN.{length}
 use native.Mathlib.Omega.{arith}
 use Rattle.steps.specs.Naming.{Names, same_as}

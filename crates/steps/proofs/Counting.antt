@@ -1,23 +1,22 @@
 -- What a row becomes keeps what is counted. Assumes nothing.
-use mathlib.Core.Path.{◌≡◌, refl, ap, ap₂, ◌∙◌, sym, fun_ext, subst}
+use mathlib.Core.Path.{◌≡◌, refl, ap, ap₂, ◌∙◌, sym}
 use mathlib.Core.List.{List, [], ◌∷◌, ◌++◌, append-nil, append_assoc}
-use Prim.Native.Nat.{ℕ, zero, suc, ◌+◌, ◌≤◌, ◌<◌}
-use mathlib.Core.Bool.{Bool, true, false, cond, not, ◌&&◌, ◌||◌, true≢false, false≢true}
+use Prim.Native.Nat.{ℕ, ◌+◌}
+use mathlib.Core.Bool.{Bool, true, false, cond, true≢false}
 use lib.Dec.{eqb}
 use native.Mathlib.Omega.{arith}
 use native.Mathlib.Nat.{add-zero}
 use Rattle.steps.specs.Joining.{join}
-use Rattle.steps.specs.Paths.{Step.along, Step.in_params, Step.in_body, Step.in_arrow, Step.in_value, Step.in_static}
 use Rattle.steps.specs.Mode.{bit}
 use Rattle.steps.specs.Naming.{Names}
-use Rattle.steps.specs.Bindings.{Binding, Binding.bind, is, number, closes}
-use Rattle.steps.specs.Acts.{Ctx, Op.row, Op.drop, Op.name, Op.call, Kind.this, Kind.super, Kind.ident, Kind.access, Kind.assign, Kind.arrow, Kind.function, Kind.keyed, Kind.field, Kind.static, Kind.target, Kind.other}
+use Rattle.steps.specs.Bindings.{Binding, number, closes}
+use Rattle.steps.specs.Acts.{Ctx}
 use Rattle.steps.specs.ArrowToFunction.{dress}
 use Rattle.steps.specs.TopInsertion.{this_decl, var_first, top}
 use Rattle.steps.specs.Slots.{late_body, wrapped}
 use Rattle.steps.specs.Context.{Spot, emit_c}
 use Rattle.steps.proofs.Credit.{eqb-eq, eqb_no, eqb_yes}
-use Rattle.steps.specs.Owners.{ranked, count, own_one, own_more, Read.this_of, Read.name_of, here, omitted, reads, Init, Init.this_by, Init.another, init_kind, init_of, decl_here, declared, arrow_here, arrows_of, Home, Home.at_top, Home.at_params, Home.at_body, Home.at_value, Home.at_static, captured_this, Paired.done, Paired.alike, Paired.named, arrows_on}
+use Rattle.steps.specs.Owners.{ranked, count, own_one, own_more, here, omitted, reads, Init, Init.this_by, init_kind, init_of, decl_here, declared, arrow_here, arrows_of, Home, captured_this, arrows_on}
 use Rattle.steps.proofs.Shape.{at, Usual, new_kind, new_attr}
 use Rattle.steps.proofs.Walks.{Ready, ready_in, ready_on, one, more, row_e, inside_e, emit_shape}
 use Rattle.steps.proofs.Numbers.{AllThis, top_shape, has, number_nonzero, number_use, number_inj}

@@ -1,16 +1,16 @@
 -- There are never more bindings than rows. Assumes nothing.
-use mathlib.Core.Path.{◌≡◌, refl, ap, ap₂, ◌∙◌, sym, subst}
-use mathlib.Core.List.{List, [], ◌∷◌, ◌++◌}
-use Prim.Native.Nat.{ℕ, zero, suc, ◌+◌, ◌*◌, ◌≤◌, ◌<◌}
+use mathlib.Core.Path.{◌≡◌, refl, ◌∙◌, sym, subst}
+use mathlib.Core.List.{List, []}
+use Prim.Native.Nat.{ℕ, ◌+◌, ◌≤◌}
 use mathlib.Core.Bool.{Bool, true, false, cond, not, ◌&&◌, ◌||◌, true≢false, false≢true}
-use lib.Dec.{eqb, T, eqb→eq, eqb_refl}
+use lib.Dec.{eqb}
 use lib.ListN.{length}
 use native.Mathlib.Omega.{arith}
 use Rattle.steps.specs.Paths.{Step.along, Step.in_params, Step.in_body, Step.in_static}
 use Rattle.steps.specs.Mode.{Switches, bit}
 use Rattle.steps.specs.Naming.{Names}
-use Rattle.steps.specs.Bindings.{Binding, Binding.bind, closes, closed, meet, leave}
-use Rattle.steps.specs.Acts.{Ctx, by, Act, Op.row, Kind, Kind.this, Kind.super, Kind.ident, Kind.access, Kind.assign, Kind.arrow, Kind.function, Kind.keyed, Kind.field, Kind.static, Kind.target, Kind.other, kind_of, reads?, sets?, method_slot, act_of, act}
+use Rattle.steps.specs.Bindings.{Binding, closes, closed, meet, leave}
+use Rattle.steps.specs.Acts.{Ctx, by, Act, Kind, Kind.this, Kind.super, Kind.ident, Kind.access, Kind.assign, Kind.arrow, Kind.function, Kind.keyed, Kind.field, Kind.static, Kind.target, Kind.other, kind_of, reads?, sets?, method_slot, act_of, act}
 use Rattle.steps.specs.Super.{first_inside, first_super, first_access}
 use Rattle.steps.specs.ArrowToFunction.{to_function?}
 use Rattle.steps.specs.Slots.{free, of_method, body_of, late_body, of_target, callee, dropped}

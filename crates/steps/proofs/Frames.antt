@@ -1,21 +1,19 @@
 -- Which frame declares which binding. Assumes nothing.
-use mathlib.Core.Path.{◌≡◌, refl, ap, ap₂, ◌∙◌, sym, fun_ext, subst}
-use mathlib.Core.List.{List, [], ◌∷◌, ◌++◌, append-nil, append_assoc}
-use Prim.Native.Nat.{ℕ, zero, suc, ◌+◌, ◌≤◌, ◌<◌}
-use mathlib.Core.Bool.{Bool, true, false, cond, not, ◌&&◌, ◌||◌, true≢false, false≢true}
+use mathlib.Core.Path.{◌≡◌, refl, ap₂, ◌∙◌}
+use mathlib.Core.List.{List, [], ◌++◌, append_assoc}
+use Prim.Native.Nat.{ℕ, ◌+◌}
+use mathlib.Core.Bool.{Bool, true, false, cond, true≢false}
 use lib.Dec.{eqb}
-use native.Mathlib.Omega.{arith}
-use native.Mathlib.Nat.{add-zero}
-use Rattle.steps.specs.Paths.{Step.along, Step.in_params, Step.in_body, Step.in_arrow, Step.in_value, Step.in_static}
+use Rattle.steps.specs.Paths.{Step.along, Step.in_value}
 use Rattle.steps.specs.Mode.{bit, async_only}
 use Rattle.steps.specs.Naming.{Names}
-use Rattle.steps.specs.Bindings.{Binding, Binding.bind, number, closes}
-use Rattle.steps.specs.Acts.{Ctx, Op.row, Op.drop, Op.name, Op.call, Kind.this, Kind.super, Kind.ident, Kind.access, Kind.assign, Kind.arrow, Kind.function, Kind.keyed, Kind.field, Kind.static, Kind.target, Kind.other, kind_of, act_of, act}
+use Rattle.steps.specs.Bindings.{Binding, number, closes}
+use Rattle.steps.specs.Acts.{Ctx, kind_of, act_of, act}
 use Rattle.steps.specs.ArrowToFunction.{dress}
 use Rattle.steps.specs.TopInsertion.{top}
 use Rattle.steps.specs.Slots.{body_of, late_body}
 use Rattle.steps.specs.Context.{enter, Spot, emit_c}
-use Rattle.steps.specs.Owners.{ranked, count, own_one, own_more, Read.this_of, Read.name_of, Init, Init.this_by, Init.another, decl_here, declared, Home, Home.at_top, Home.at_params, Home.at_body, Home.at_value, Home.at_static, Paired.done, Paired.alike, Paired.named, arrows_on}
+use Rattle.steps.specs.Owners.{ranked, count, own_one, own_more, Init, decl_here, declared, Home, arrows_on}
 use Rattle.steps.proofs.WellShaped.{WfRow, Wf}
 use Rattle.steps.proofs.Shape.{Dull, at, kinds, Usual, dull_one, dull_more, new_kind, new_attr}
 use Rattle.steps.proofs.Walks.{Ready, ready_in, ready_on, wf_zero, one, more, row_e, inside_e, emit_shape}

@@ -2,7 +2,7 @@
 use mathlib.Core.Path.{◌≡◌, refl, ap, ap₂, ◌∙◌, sym}
 use mathlib.Core.List.{List}
 use Prim.Native.Nat.{ℕ, ◌+◌}
-use mathlib.Core.Bool.{Bool, true, false, cond, not, ◌&&◌, ◌||◌, false≢true}
+use mathlib.Core.Bool.{Bool, true, false, cond, ◌&&◌, ◌||◌, false≢true}
 use lib.Dec.{eqb}
 use Rattle.forest.specs.Forest.{Rows, Rows.none, Rows.node, size}
 use Rattle.steps.specs.Mode.{Switches}
@@ -13,7 +13,6 @@ use Rattle.steps.specs.Naming.{Names}
 use Rattle.steps.specs.Acts.{Ctx, Op, Act}
 use Rattle.steps.specs.Bindings.{Binding, number}
 use Rattle.steps.specs.AfterSuper.{list, copy, super_call, after_super}
-use Rattle.steps.specs.TopInsertion.{top}
 use Rattle.steps.specs.Walk.{build}
 use Rattle.steps.specs.Context.{enter, start, Spot, spot, into, late_c, act_c, emit_c, made_c, steps_c}
 use Rattle.steps.specs.Fused.{met_of, direct_of, within, own, scan_of, next_of, anew, pass_of, top_s, build_s, emit_s, steps_s}

@@ -1,20 +1,18 @@
 -- The numbers of captured `this` bindings. Assumes nothing.
-use mathlib.Core.Path.{◌≡◌, refl, ap, ap₂, ◌∙◌, sym, fun_ext, subst}
-use mathlib.Core.List.{List, [], ◌∷◌, ◌++◌, append-nil, append_assoc}
-use Prim.Native.Nat.{ℕ, zero, suc, ◌+◌, ◌≤◌, ◌<◌}
-use mathlib.Core.Bool.{Bool, true, false, cond, not, ◌&&◌, ◌||◌, true≢false, false≢true}
+use mathlib.Core.Path.{◌≡◌, refl, ap, ◌∙◌, sym}
+use mathlib.Core.List.{List, [], ◌∷◌, ◌++◌, append-nil}
+use Prim.Native.Nat.{ℕ, ◌+◌, ◌≤◌}
+use mathlib.Core.Bool.{Bool, true, false, cond, not, ◌&&◌, ◌||◌, false≢true}
 use lib.Dec.{eqb}
 use native.Mathlib.Omega.{arith}
-use native.Mathlib.Nat.{add-zero}
-use Rattle.steps.specs.Paths.{Step.along, Step.in_params, Step.in_body, Step.in_arrow, Step.in_value, Step.in_static}
 use Rattle.steps.specs.Naming.{Names, same_as}
 use Rattle.steps.specs.Bindings.{Binding, Binding.bind, is, number_from, number, note, closes, params_of, closed}
-use Rattle.steps.specs.Acts.{Ctx, Op.row, Op.drop, Op.name, Op.call, Kind.this, Kind.super, Kind.ident, Kind.access, Kind.assign, Kind.arrow, Kind.function, Kind.keyed, Kind.field, Kind.static, Kind.target, Kind.other}
+use Rattle.steps.specs.Acts.{Ctx}
 use Rattle.steps.specs.TopInsertion.{param_numbers, arguments_decl, this_decl, accessor_decls, var_first, frame_top}
 use Rattle.steps.specs.Context.{Spot, collect_c}
 use Rattle.steps.proofs.Credit.{eqb-eq, eqb_no, eqb_yes}
 use Rattle.steps.proofs.Fewer.{and_no, and_left}
-use Rattle.steps.specs.Owners.{among, Read.this_of, Read.name_of, Init.this_by, Init.another, Home, Home.at_top, Home.at_params, Home.at_body, Home.at_value, Home.at_static, record_at, use_is1, captured_this, Paired.done, Paired.alike, Paired.named, arrows_on}
+use Rattle.steps.specs.Owners.{Home, record_at, use_is1, captured_this, arrows_on}
 use Rattle.steps.proofs.Walks.{Ready, ready_in, ready_on, collect_shape}
 use Rattle.steps.proofs.Shape.{meet_e}
 use Rattle.forest.specs.Forest.{Rows, Rows.none, Rows.node, size}

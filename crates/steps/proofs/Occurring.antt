@@ -1,5 +1,5 @@
 -- The states and slots that occur together in the fused walk, and that what it decides from a row of the table holds of the row of the result. Assumes nothing.
-use mathlib.Core.Path.{◌≡◌, refl, ap, ◌∙◌, sym}
+use mathlib.Core.Path.{◌≡◌, refl, ◌∙◌, sym}
 use Prim.Native.Nat.{ℕ}
 use mathlib.Core.Bool.{Bool, true, false, cond, not, ◌&&◌, ◌||◌, false≢true}
 use lib.Dec.{eqb}
@@ -8,7 +8,7 @@ use Rattle.steps.specs.Mode.{Switches, bit, async_only}
 use Rattle.steps.specs.Paths.{Step, Step.along, Step.in_arrow, Step.in_value}
 use Rattle.steps.specs.Super.{first_super, first_access, first_name, first_inside}
 use Rattle.steps.specs.ArrowToFunction.{to_function?}
-use Rattle.steps.specs.Slots.{body_of, late_body, wrapped, dropped}
+use Rattle.steps.specs.Slots.{body_of, late_body, dropped}
 use Rattle.steps.specs.Naming.{Names, named_arguments}
 use Rattle.steps.specs.Acts.{Ctx, Op.row, Op.drop, Op.name, Op.call, by, Act, does, Kind, Kind.this, Kind.super, Kind.ident, Kind.access, Kind.call, Kind.assign, Kind.arrow, Kind.keyed, Kind.field, Kind.static, Kind.target, Kind.other, kind_of, reads?, sets?, method_slot, act_of, act}
 use Rattle.steps.specs.Bindings.{closes}

@@ -1,16 +1,15 @@
 -- Demand 3 of the rows under Program. Assumes nothing.
-use mathlib.Core.Path.{◌≡◌, refl, ap, ap₂, ◌∙◌, sym, fun_ext, subst}
-use mathlib.Core.List.{List, [], ◌∷◌, ◌++◌, append-nil, append_assoc}
-use Prim.Native.Nat.{ℕ, zero, suc, ◌+◌, ◌≤◌, ◌<◌}
-use mathlib.Core.Bool.{Bool, true, false, cond, not, ◌&&◌, ◌||◌, true≢false, false≢true}
+use mathlib.Core.Path.{◌≡◌, refl, ap, ◌∙◌, sym, subst}
+use mathlib.Core.List.{List, [], ◌∷◌, ◌++◌, append-nil}
+use Prim.Native.Nat.{ℕ, ◌+◌, ◌≤◌, ◌<◌}
+use mathlib.Core.Bool.{Bool, true, false, cond, ◌&&◌, ◌||◌, false≢true}
 use lib.Dec.{eqb}
 use native.Mathlib.Omega.{arith}
-use native.Mathlib.Nat.{add-zero}
-use Rattle.steps.specs.Paths.{Step.along, Step.in_params, Step.in_body, Step.in_arrow, Step.in_value, Step.in_static}
+use Rattle.steps.specs.Paths.{Step.along, Step.in_value}
 use Rattle.steps.specs.Mode.{bit, enabled, async_only}
 use Rattle.steps.specs.Naming.{Names, same_as}
-use Rattle.steps.specs.Bindings.{Binding, Binding.bind, is, number, note, closes, closed, meet, leave}
-use Rattle.steps.specs.Acts.{Ctx, Op.row, Op.drop, Op.name, Op.call, Kind.this, Kind.super, Kind.ident, Kind.access, Kind.assign, Kind.arrow, Kind.function, Kind.keyed, Kind.field, Kind.static, Kind.target, Kind.other, kind_of, act_of, act}
+use Rattle.steps.specs.Bindings.{Binding, number, note, closes, closed, meet, leave}
+use Rattle.steps.specs.Acts.{Ctx, kind_of, act_of, act}
 use Rattle.steps.specs.ArrowToFunction.{dress}
 use Rattle.steps.specs.TopInsertion.{top}
 use Rattle.steps.specs.Walk.{build}
@@ -18,7 +17,7 @@ use Rattle.steps.specs.Slots.{free, wrapped}
 use Rattle.steps.specs.Context.{enter, start, Spot, spot, act_c, collect_c, emit_c, made_c, steps_c}
 use Rattle.steps.proofs.Credit.{eqb_no}
 use Rattle.steps.proofs.Fewer.{and_no}
-use Rattle.steps.specs.Owners.{ranked, count, own_one, own_more, Read.this_of, Read.name_of, here, is_ident, is_target, made_ident, made_target, omitted, reads, Init, Init.this_by, Init.another, decl_here, declared, arrow_here, arrows_of, Home, Home.at_top, Home.at_params, Home.at_body, Home.at_value, Home.at_static, ArrowFits, home_one, home_more, Fits, Calm, captured_this, Paired, Paired.done, Paired.alike, Paired.named, OwnersKept, arrows_on}
+use Rattle.steps.specs.Owners.{ranked, count, own_one, own_more, Read.this_of, here, is_ident, is_target, made_ident, made_target, omitted, reads, Init, Init.this_by, decl_here, declared, arrow_here, arrows_of, Home, Home.at_top, Home.at_value, ArrowFits, home_one, home_more, Fits, Calm, captured_this, Paired, Paired.done, Paired.alike, Paired.named, OwnersKept, arrows_on}
 use Rattle.steps.proofs.WellShaped.{NoThisKind, NoThisFirst, WfRow, Wf}
 use Rattle.steps.proofs.Shape.{Dull, at, kinds, moved_off, Usual, one_slot, dull_one, dull_more, new_kind, new_attr, new_name, meet_e}
 use Rattle.steps.proofs.Walks.{Ready, ready_in, ready_on, wf_zero, one, more, row_e, inside_e, emit_shape, collect_shape}

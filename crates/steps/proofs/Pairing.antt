@@ -1,20 +1,19 @@
 -- The Declarators of a result are those of its frames. Assumes nothing.
-use mathlib.Core.Path.{◌≡◌, refl, ap, ap₂, ◌∙◌, sym, fun_ext, subst}
-use mathlib.Core.List.{List, [], ◌∷◌, ◌++◌, append-nil, append_assoc}
-use Prim.Native.Nat.{ℕ, zero, suc, ◌+◌, ◌≤◌, ◌<◌}
-use mathlib.Core.Bool.{Bool, true, false, cond, not, ◌&&◌, ◌||◌, true≢false, false≢true}
+use mathlib.Core.Path.{◌≡◌, refl, ◌∙◌, sym}
+use mathlib.Core.List.{List, [], ◌∷◌, ◌++◌, append-nil}
+use Prim.Native.Nat.{ℕ, ◌+◌, ◌≤◌, ◌<◌}
+use mathlib.Core.Bool.{Bool, true, false, cond, true≢false, false≢true}
 use lib.Dec.{eqb}
 use native.Mathlib.Omega.{arith}
-use native.Mathlib.Nat.{add-zero}
-use Rattle.steps.specs.Paths.{Step.along, Step.in_params, Step.in_body, Step.in_arrow, Step.in_value, Step.in_static}
+use Rattle.steps.specs.Paths.{Step.in_params, Step.in_body, Step.in_static}
 use Rattle.steps.specs.Naming.{Names}
-use Rattle.steps.specs.Bindings.{Binding.bind, is, closes}
-use Rattle.steps.specs.Acts.{Ctx, by, Op.row, Op.drop, Op.name, Op.call, Kind.this, Kind.super, Kind.ident, Kind.access, Kind.assign, Kind.arrow, Kind.function, Kind.keyed, Kind.field, Kind.static, Kind.target, Kind.other, kind_of, act_of, act}
+use Rattle.steps.specs.Bindings.{closes}
+use Rattle.steps.specs.Acts.{Ctx, by, kind_of, act_of, act}
 use Rattle.steps.specs.Slots.{free, of_method}
 use Rattle.steps.specs.Context.{enter, Spot, spot, into}
 use Rattle.steps.proofs.Credit.{eqb_no, eqb_yes}
 use Rattle.steps.proofs.Fewer.{Bodied, slot_one, slot_more, not_function}
-use Rattle.steps.specs.Owners.{ranked, count, own_one, own_more, Read, Read.this_of, Read.name_of, Init, Init.this_by, Init.another, Home.at_top, Home.at_params, Home.at_body, Home.at_value, Home.at_static, Paired, Paired.done, Paired.alike, Paired.named, arrows_on}
+use Rattle.steps.specs.Owners.{ranked, count, own_one, own_more, Read, Init, Init.this_by, Paired, Paired.done, Paired.alike, Paired.named, arrows_on}
 use Rattle.steps.proofs.WellShaped.{OneBody, ParamsBody, Wf}
 use Rattle.steps.proofs.Shape.{at}
 use Rattle.steps.proofs.Walks.{wf_zero, one, more}

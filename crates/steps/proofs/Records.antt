@@ -1,16 +1,15 @@
 -- The list of bindings only grows, and every record is in range. Assumes nothing.
-use mathlib.Core.Path.{◌≡◌, refl, ap, ap₂, ◌∙◌, sym, subst}
+use mathlib.Core.Path.{◌≡◌, refl, sym, subst}
 use mathlib.Core.List.{List, [], ◌∷◌, ◌++◌, append_assoc, append-nil}
-use Prim.Native.Nat.{ℕ, zero, suc, ◌+◌, ◌*◌, ◌≤◌, ◌<◌}
-use mathlib.Core.Bool.{Bool, true, false, cond, not, ◌&&◌, ◌||◌, true≢false, false≢true}
+use Prim.Native.Nat.{ℕ, zero, suc, ◌+◌, ◌≤◌, ◌<◌}
+use mathlib.Core.Bool.{Bool, true, false, cond, ◌&&◌, ◌||◌, true≢false, false≢true}
 use lib.Dec.{eqb, eqb→eq, T}
-use lib.ListN.{length, length-append}
 use native.Mathlib.Omega.{arith}
 use Rattle.steps.specs.Paths.{Step, Step.along, Step.in_params, Step.in_body, Step.in_arrow, Step.in_value, Step.in_static}
 use Rattle.steps.specs.Mode.{Switches, bit, async_only}
 use Rattle.steps.specs.Naming.{Names, named_arguments}
-use Rattle.steps.specs.Bindings.{Binding, Binding.bind, is, number, note, closes, params_of, closed, meet, leave}
-use Rattle.steps.specs.Acts.{Ctx, Act, Op, Op.row, Op.drop, Op.name, Op.call, Kind, Kind.this, Kind.super, Kind.ident, Kind.access, Kind.assign, Kind.arrow, Kind.function, Kind.keyed, Kind.field, Kind.static, Kind.target, Kind.other, kind_of, reads?, sets?, act_of, act}
+use Rattle.steps.specs.Bindings.{Binding, Binding.bind, number, note, closes, params_of, closed, meet, leave}
+use Rattle.steps.specs.Acts.{Ctx, Act, Op, Op.row, Op.drop, Op.name, Kind, Kind.this, Kind.super, Kind.ident, Kind.access, Kind.assign, Kind.arrow, Kind.function, Kind.keyed, Kind.field, Kind.static, Kind.target, Kind.other, kind_of, reads?, sets?, act_of, act}
 use Rattle.steps.specs.Super.{first_name, first_inside, first_super, first_access}
 use Rattle.steps.specs.ArrowToFunction.{to_function?}
 use Rattle.steps.specs.Slots.{callee, dropped}

@@ -1,23 +1,21 @@
 -- With arrows on and both async switches off, what is done with a row. Assumes nothing.
-use mathlib.Core.Path.{◌≡◌, refl, ap, ap₂, ◌∙◌, sym, fun_ext, subst}
-use mathlib.Core.List.{List, [], ◌∷◌, ◌++◌, append-nil, append_assoc}
-use Prim.Native.Nat.{ℕ, zero, suc, ◌+◌, ◌≤◌, ◌<◌}
-use mathlib.Core.Bool.{Bool, true, false, cond, not, ◌&&◌, ◌||◌, true≢false, false≢true}
+use mathlib.Core.Path.{◌≡◌, refl, sym, subst}
+use mathlib.Core.List.{List}
+use Prim.Native.Nat.{ℕ}
+use mathlib.Core.Bool.{Bool, true, false, cond, not, ◌&&◌, ◌||◌, false≢true}
 use lib.Dec.{eqb}
-use native.Mathlib.Omega.{arith}
-use native.Mathlib.Nat.{add-zero}
 use Rattle.steps.specs.Paths.{Step, Step.along, Step.in_params, Step.in_body, Step.in_arrow, Step.in_value, Step.in_static}
 use Rattle.steps.specs.Mode.{bit, enabled, async_only, moved_function}
 use Rattle.steps.specs.Naming.{Names}
-use Rattle.steps.specs.Bindings.{Binding, Binding.bind, is, number, note}
-use Rattle.steps.specs.Acts.{Ctx, Turn, by, Op.row, Op.drop, Op.name, Op.call, Kind, Kind.this, Kind.super, Kind.ident, Kind.access, Kind.assign, Kind.arrow, Kind.function, Kind.keyed, Kind.field, Kind.static, Kind.target, Kind.other, kind_of, method_slot, act_of, act}
+use Rattle.steps.specs.Bindings.{Binding, number, note}
+use Rattle.steps.specs.Acts.{Ctx, Turn, Op.row, Op.name, Kind, Kind.this, Kind.super, Kind.ident, Kind.access, Kind.assign, Kind.arrow, Kind.function, Kind.keyed, Kind.field, Kind.static, Kind.target, Kind.other, kind_of, method_slot, act_of, act}
 use Rattle.steps.specs.ArrowToFunction.{to_function?}
 use Rattle.steps.specs.Walk.{build}
 use Rattle.steps.specs.Slots.{body_of, late_body, dropped}
 use Rattle.steps.specs.Context.{enter, Spot, into}
 use Rattle.steps.proofs.Credit.{eqb-eq}
 use Rattle.steps.proofs.Fewer.{pick}
-use Rattle.steps.specs.Owners.{Read.this_of, Read.name_of, Init.this_by, Init.another, Home.at_top, Home.at_params, Home.at_body, Home.at_value, Home.at_static, Paired.done, Paired.alike, Paired.named, arrows_on}
+use Rattle.steps.specs.Owners.{arrows_on}
 use Rattle.forest.specs.Forest.{Rows, Rows.none, Rows.node}
 
 -- The kinds by number: five of them, and the rest.

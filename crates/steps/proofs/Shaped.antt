@@ -1,13 +1,13 @@
 -- The rows under Program of a table that refusals 21 to 25 and 5 let through are as the steps want them. Assumes nothing.
-use mathlib.Core.Path.{◌≡◌, refl, ap, sym, subst, ◌∙◌}
-use Prim.Native.Nat.{ℕ, zero, suc, ◌+◌, ◌≤◌, ◌<◌}
-use mathlib.Core.Bool.{Bool, true, false, cond, not, ◌&&◌, ◌||◌, true≢false, false≢true, and-true, and-false, or-false}
+use mathlib.Core.Path.{◌≡◌, refl, sym, subst, ◌∙◌}
+use Prim.Native.Nat.{ℕ, zero, suc, ◌+◌}
+use mathlib.Core.Bool.{Bool, true, false, cond, ◌&&◌, ◌||◌, true≢false, false≢true, and-true, and-false, or-false}
 use lib.Dec.{eqb, ltb, leb}
 use native.Mathlib.Omega.{arith}
 use borrow.Author.Tests.{ltb-true, leb-true, eqb-true, eq-eqb}
 use Rattle.grammar.specs.Grammar.{bit0, bit1, list_kind, place_of, place_in_function, place_in_class, kind_ok, attr_ok, fits, count_ok, name_ok, made_row}
-use Rattle.forest.specs.Forest.{Rows, Rows.none, Rows.node, size, count, row_ok, WellFormed, Table, NoRow}
-use Rattle.steps.specs.Acts.{Kind, Kind.this, Kind.super, Kind.ident, Kind.access, Kind.assign, Kind.arrow, Kind.function, Kind.keyed, Kind.field, Kind.static, Kind.target, Kind.other, kind_of}
+use Rattle.forest.specs.Forest.{Rows, Rows.none, Rows.node, count, row_ok, WellFormed, Table, NoRow}
+use Rattle.steps.specs.Acts.{Kind, Kind.this, Kind.super, Kind.ident, Kind.assign, Kind.arrow, Kind.function, Kind.keyed, Kind.field, Kind.static, Kind.target, Kind.other, kind_of}
 use Rattle.steps.proofs.Records.{Named, NamedRow}
 use Rattle.steps.proofs.WellShaped.{Empty, OneBody, ParamsBody, NoThisKind, NoThisFirst, TargetFirst, WfRow, Wf}
 use Rattle.steps.proofs.Shape.{at}

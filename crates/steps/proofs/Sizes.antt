@@ -1,7 +1,7 @@
 -- How many rows what is put in adds. Assumes nothing.
-use mathlib.Core.Path.{◌≡◌, refl, ap, ap₂, ◌∙◌, sym, subst}
-use mathlib.Core.List.{List, [], ◌∷◌, ◌++◌}
-use Prim.Native.Nat.{ℕ, zero, suc, ◌+◌, ◌*◌, ◌≤◌, ◌<◌}
+use mathlib.Core.Path.{◌≡◌, refl, ◌∙◌, sym, subst}
+use mathlib.Core.List.{List, [], ◌∷◌}
+use Prim.Native.Nat.{ℕ, suc, ◌+◌, ◌*◌, ◌≤◌, ◌<◌}
 use mathlib.Core.Bool.{Bool, true, false, cond, not, ◌&&◌, ◌||◌, true≢false, false≢true}
 use lib.Dec.{eqb, ltb, ltb→lt, lt→ltb, T}
 use lib.ListN.{length}
@@ -10,7 +10,7 @@ use Rattle.steps.specs.Joining.{join}
 use Rattle.steps.specs.Mode.{bit}
 use Rattle.steps.specs.Naming.{Names}
 use Rattle.steps.specs.Bindings.{Binding, Binding.bind, number}
-use Rattle.steps.specs.Acts.{Ctx, Op, Op.row, Op.drop, Op.name, Op.call}
+use Rattle.steps.specs.Acts.{Ctx, Op, Op.row, Op.drop, Op.name}
 use Rattle.steps.specs.Walk.{build}
 use Rattle.steps.specs.Super.{first_super}
 use Rattle.steps.specs.AfterSuper.{super_call, is_direct, is_met, scan_inner, scan_next, assignment, after_super, list, visit, copy, direct, once, heritage, members}

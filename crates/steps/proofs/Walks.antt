@@ -1,22 +1,20 @@
 -- The walks, where arrows are on and both async switches off. Assumes nothing.
-use mathlib.Core.Path.{◌≡◌, refl, ap, ap₂, ◌∙◌, sym, fun_ext, subst}
-use mathlib.Core.List.{List, [], ◌∷◌, ◌++◌, append-nil, append_assoc}
-use Prim.Native.Nat.{ℕ, zero, suc, ◌+◌, ◌≤◌, ◌<◌}
-use mathlib.Core.Bool.{Bool, true, false, cond, not, ◌&&◌, ◌||◌, true≢false, false≢true}
+use mathlib.Core.Path.{◌≡◌, refl, ap, sym, fun_ext, subst}
+use mathlib.Core.List.{List, [], ◌∷◌}
+use Prim.Native.Nat.{ℕ, ◌+◌}
+use mathlib.Core.Bool.{Bool, true, false, cond, not, ◌&&◌, ◌||◌, true≢false}
 use lib.Dec.{eqb}
-use native.Mathlib.Omega.{arith}
-use native.Mathlib.Nat.{add-zero}
-use Rattle.steps.specs.Paths.{Step.along, Step.in_params, Step.in_body, Step.in_arrow, Step.in_value, Step.in_static}
+use Rattle.steps.specs.Paths.{Step.in_params, Step.in_body}
 use Rattle.steps.specs.Mode.{bit, enabled}
 use Rattle.steps.specs.Naming.{Names}
-use Rattle.steps.specs.Bindings.{Binding, Binding.bind, is, note, closes, closed, meet, leave}
-use Rattle.steps.specs.Acts.{by, Op.row, Op.drop, Op.name, Op.call, Kind.this, Kind.super, Kind.ident, Kind.access, Kind.assign, Kind.arrow, Kind.function, Kind.keyed, Kind.field, Kind.static, Kind.target, Kind.other, kind_of, act_of, act}
+use Rattle.steps.specs.Bindings.{Binding, note, closes, closed, meet, leave}
+use Rattle.steps.specs.Acts.{by, Op.row, Op.name, kind_of, act_of, act}
 use Rattle.steps.specs.ArrowToFunction.{dress}
 use Rattle.steps.specs.TopInsertion.{top}
 use Rattle.steps.specs.Slots.{free, of_method}
 use Rattle.steps.specs.Context.{Spot, into, leaves_c, late_c, act_c, collect_c, emit_c}
 use Rattle.steps.proofs.Credit.{eqb-eq}
-use Rattle.steps.specs.Owners.{among, Read.this_of, Read.name_of, Init.this_by, Init.another, Home, Home.at_top, Home.at_params, Home.at_body, Home.at_value, Home.at_static, ArrowFits, home_one, home_more, builder, Fits, Calm, Paired.done, Paired.alike, Paired.named, arrows_on}
+use Rattle.steps.specs.Owners.{among, Home, ArrowFits, home_one, home_more, builder, Fits, Calm, arrows_on}
 use Rattle.steps.proofs.WellShaped.{Empty, ParamsBody, NoThisFirst, TargetFirst, WfRow, Wf}
 use Rattle.steps.proofs.Shape.{at, kinds, Usual, dull_op, usual_one, usual_more, new_kind, new_attr, new_name, meet_e, built}
 use Rattle.forest.specs.Forest.{Rows, Rows.none, Rows.node, size}

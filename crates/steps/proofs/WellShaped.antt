@@ -1,8 +1,8 @@
 -- What the steps want of the rows under Program; `Shaped` shows that acceptance gives it. Assumes nothing.
 use mathlib.Core.Path.{◌≡◌}
-use mathlib.Core.List.{List, [], ◌∷◌}
+use mathlib.Core.List.{[], ◌∷◌}
 use Prim.Native.Nat.{ℕ}
-use mathlib.Core.Bool.{Bool, true, false, cond}
+use mathlib.Core.Bool.{cond}
 use lib.Dec.{eqb}
 use Rattle.steps.specs.Owners.{among}
 use Rattle.forest.specs.Forest.{Rows, Rows.none, Rows.node}

@@ -1,5 +1,5 @@
 -- What is done with a row, by its kind, its place and what stands right below it: modules 3 to 6 brought together. Assumes nothing.
-use Rattle.std.specs.Prelude.{List, ℕ, Bool, true, false, cond, not, ◌&&◌, ◌||◌, eqb}
+use Rattle.std.specs.Prelude.{List, ℕ, Bool, false, cond, not, ◌&&◌, ◌||◌, eqb}
 use Rattle.grammar.specs.Kinds.{This, Super, Ident, Member, Computed, Call, Assign, Arrow, Function, Method, Field, StaticBlock, Property, Target}
 use Rattle.forest.specs.Forest.{Rows}
 use Rattle.steps.specs.Mode.{Switches, bit, async_only}

@@ -1,5 +1,5 @@
 -- Module 7, After super: "Runs on the converted body." `ConstructorBodyThisAfterSuperInserter` of the Rust. Assumes nothing.
-use Rattle.std.specs.Prelude.{ℕ, Bool, true, false, cond, ◌&&◌, ◌||◌, eqb}
+use Rattle.std.specs.Prelude.{ℕ, Bool, false, cond, ◌&&◌, ◌||◌, eqb}
 use Rattle.grammar.specs.Kinds.{ExprStmt, Block, This, Ident, Call, Assign, Function, Body, Class, Method, Field, StaticBlock, Sequence, Target}
 use Rattle.forest.specs.Forest.{Rows, Rows.none, Rows.node}
 use Rattle.steps.specs.Mode.{bit}

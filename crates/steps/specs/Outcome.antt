@@ -1,6 +1,6 @@
 -- What is answered for every input: the refusals in the request's order, and the result. Assumes nothing.
-use Rattle.std.specs.Prelude.{List, [], ◌∷◌, ℕ, Bool, cond, ◌&&◌, leb, length}
-use Rattle.forest.specs.Forest.{Rows, size, flat, table}
+use Rattle.std.specs.Prelude.{List, [], ◌∷◌, ℕ, cond, ◌&&◌, leb, length}
+use Rattle.forest.specs.Forest.{size, flat, table}
 use Rattle.rows.specs.Refusals.{checked, number_of, place_for}
 use Rattle.names.specs.declared.Found.{Found}
 use Rattle.names.specs.declared.Found.TheVariants.{At, Nothing}

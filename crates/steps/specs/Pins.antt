@@ -1,5 +1,5 @@
 -- "Mistakes to shut out", and what the plots do not catch: further tables, each for one reading. Assumes nothing.
-use Rattle.std.specs.Prelude.{List, [], ◌∷◌, ℕ, true, false}
+use Rattle.std.specs.Prelude.{List, [], ◌∷◌, true, false}
 use Rattle.steps.specs.Mode.{switches}
 use Rattle.steps.specs.Outcome.{Outcome.refused, Outcome.converted}
 use Rattle.steps.specs.Tables.{Line.row, sheet, room, Plot}

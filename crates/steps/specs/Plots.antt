@@ -1,5 +1,5 @@
 -- "Plots walked by hand": the starred ones, as one list. Assumes nothing.
-use Rattle.std.specs.Prelude.{List, [], ◌∷◌, ℕ, true, false}
+use Rattle.std.specs.Prelude.{List, [], ◌∷◌, true, false}
 use Rattle.steps.specs.Mode.{switches}
 use Rattle.steps.specs.Outcome.{Outcome.refused, Outcome.converted}
 use Rattle.steps.specs.Tables.{Line.row, sheet, room, Plot}

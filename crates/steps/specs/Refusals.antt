@@ -1,5 +1,5 @@
 -- Refusals 6, 7 and 8 of "Turned away", over the forest of a table: each is the first row of which a test holds. Assumes nothing.
-use Rattle.std.specs.Prelude.{◌≡◌, ℕ, ◌+◌, Bool, true, false, cond, not, ◌&&◌, ◌||◌, eqb}
+use Rattle.std.specs.Prelude.{ℕ, ◌+◌, Bool, true, false, cond, not, ◌&&◌, ◌||◌, eqb}
 use Rattle.names.specs.declared.Found.{Found}
 use Rattle.names.specs.declared.Found.TheVariants.{At, Nothing}
 use Rattle.grammar.specs.Kinds.{Program, Declarator, Super, Call, Arrow, Function, Class, Method, Field, StaticBlock, Property}

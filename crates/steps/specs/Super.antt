@@ -1,5 +1,5 @@
 -- Module 4, Super: where it is rewritten, and the frame of its accessor. Assumes nothing.
-use Rattle.std.specs.Prelude.{List, [], ◌∷◌, ℕ, Bool, true, false, cond, ◌&&◌, ◌||◌, eqb}
+use Rattle.std.specs.Prelude.{List, [], ◌∷◌, ℕ, Bool, false, cond, ◌&&◌, ◌||◌, eqb}
 use Rattle.grammar.specs.Kinds.{Super, Member, Computed}
 use Rattle.forest.specs.Forest.{Rows, Rows.none, Rows.node}
 use Rattle.steps.specs.Mode.{Switches, async_only, moved_function, moved_arrow}

@@ -1,6 +1,6 @@
 -- Module 8, Top insertion: `insert_variable_statement_at_the_top_of_statements` of the Rust. Assumes nothing.
 use Rattle.std.specs.Prelude.{List, [], ◌∷◌, ℕ, ◌+◌, Bool, cond, not, ◌&&◌, ◌||◌, eqb}
-use Rattle.grammar.specs.Kinds.{Program, Var, Declarator, This, Super, Ident, Member, Computed, Assign, Arrow, Function, Params, Arguments, Target}
+use Rattle.grammar.specs.Kinds.{Program, Var, Declarator, This, Super, Ident, Member, Computed, Assign, Arrow, Params, Arguments, Target}
 use Rattle.forest.specs.Forest.{Rows, Rows.none, Rows.node}
 use Rattle.steps.specs.Joining.{join}
 use Rattle.steps.specs.Slots.{late_body}

@@ -1,5 +1,5 @@
 -- Module 9, the walk. It is made twice: `collect` makes the bindings in the Rust's order, and `emit`, which knows them all, makes the rows. Assumes nothing.
-use Rattle.std.specs.Prelude.{List, [], ◌∷◌, ℕ, ◌+◌, Bool, true, false, cond, not, ◌&&◌, ◌||◌, eqb}
+use Rattle.std.specs.Prelude.{List, [], ◌∷◌, ℕ, ◌+◌, Bool, false, cond, not, ◌&&◌, ◌||◌, eqb}
 use Rattle.grammar.specs.Kinds.{This, Super, Ident, Member, Call, Function}
 use Rattle.forest.specs.Forest.{Rows, Rows.none, Rows.node, size}
 use Rattle.steps.specs.Mode.{Switches, bit}

@@ -1,6 +1,5 @@
 -- `below::descend` meets its contract. Assumes nothing.
 use native.Mathlib.Omega.{arith}
-use borrow.Author.Rules.{rules}
 use Rattle.below.proofs.Firsts.{childless, next, parent, firsts-none, firsts-one, firsts-two}
 use Rattle.below.proofs.descend.Goals as goal
 

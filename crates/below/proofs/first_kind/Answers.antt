@@ -1,6 +1,5 @@
 -- `below::first_kind` meets its contract. Assumes nothing.
 use native.Mathlib.Omega.{arith}
-use borrow.Author.Rules.{rules}
 use Rattle.below.proofs.Firsts.{childless, next, parent, kind-of, kind_none}
 use Rattle.below.proofs.first_kind.Goals as goal
 

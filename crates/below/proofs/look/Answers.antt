@@ -1,6 +1,5 @@
 -- `below::look` meets its contract. Assumes nothing.
 use mathlib.Core.Path.{◌∙◌}
-use borrow.Author.Rules.{rules}
 use Rattle.below.proofs.Firsts.{is_super, is_access, is_call}
 use Rattle.below.proofs.look.Goals as goal
 

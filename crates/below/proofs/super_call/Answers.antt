@@ -1,5 +1,4 @@
 -- `below::super_call` meets its contract. Assumes nothing.
-use borrow.Author.Rules.{rules}
 use Rattle.below.proofs.Firsts.{is_call}
 use Rattle.below.proofs.super_call.Goals as goal
 

@@ -1,6 +1,6 @@
 -- `bindings::add` meets its contract. Assumes nothing.
 use Prim.Native.Nat.{ℕ, ◌+◌, ◌<◌}
-use mathlib.Core.Path.{◌≡◌, refl, ap, sym, subst, ◌∙◌}
+use mathlib.Core.Path.{refl, ap, sym, subst, ◌∙◌}
 use mathlib.Core.List.{List, [], ◌∷◌, ◌++◌}
 use lib.ListN.{length, get_or}
 use Rattle.steps.specs.Bindings.{Binding.bind}
@@ -10,7 +10,6 @@ use Rattle.bindings.specs.Filed.{behind}
 use Rattle.bindings.proofs.Arrays.{pushed_long}
 use Rattle.bindings.proofs.Chains.{add_low, added}
 use Rattle.bindings.proofs.Filing.{pushed-behind, chained-behind}
-use borrow.Author.Rules.{rules}
 use Rattle.bindings.proofs.add.Goals as goal
 
 pub chain-requires : goal.chain-requires

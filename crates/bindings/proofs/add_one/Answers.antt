@@ -1,7 +1,6 @@
 -- `bindings::add_one` meets its contract. Assumes nothing.
 use mathlib.Core.Path.{refl}
 use Rattle.bindings.proofs.Closing.{one-room, one_kept, one_none}
-use borrow.Author.Rules.{rules}
 use Rattle.bindings.proofs.add_one.Goals as goal
 
 pub add-requires : goal.add-requires

@@ -1,7 +1,6 @@
 -- `bindings::add_params` meets its contract. Assumes nothing.
 use mathlib.Core.Path.{refl, ◌∙◌}
 use Rattle.bindings.proofs.Closing.{two-first, two-second, two-kept}
-use borrow.Author.Rules.{rules}
 use Rattle.bindings.proofs.add_params.Goals as goal
 
 pub add_one-computed-requires : goal.add_one-computed-requires

@@ -1,7 +1,6 @@
 -- `bindings::capture_table` meets its contract. Assumes nothing.
 use borrow.Author.Tests.{eq-eqb, ne_eqb}
 use native.Mathlib.Omega.{arith}
-use borrow.Author.Rules.{rules}
 use Rattle.bindings.proofs.capture_table.Goals as goal
 
 pub returns-then-u-eq1 : goal.returns-then-u-eq1

@@ -1,10 +1,9 @@
 -- `bindings::chain` meets its contract. Assumes nothing.
-use Prim.Native.Nat.{ℕ, ◌<◌, ◌≤◌}
+use Prim.Native.Nat.{ℕ, ◌<◌}
 use mathlib.Core.Path.{◌≡◌, ap, sym, subst, ◌∙◌}
 use lib.ListN.{get_or, set}
 use Rattle.bindings.specs.Store.{last_table, link_table}
 use native.Mathlib.Omega.{arith}
-use borrow.Author.Rules.{rules}
 use Rattle.bindings.proofs.chain.Goals as goal
 
 pub link_table-link-requires : goal.link_table-link-requires

@@ -1,7 +1,6 @@
 -- `bindings::file` meets its contract. Assumes nothing.
 use lib.ListN.{length-set}
 use native.Mathlib.Omega.{arith}
-use borrow.Author.Rules.{rules}
 use Rattle.bindings.proofs.file.Goals as goal
 
 pub bounds-made-last-2 : goal.bounds-made-last-2

@@ -1,6 +1,5 @@
 -- `bindings::first_table` meets its contract. Assumes nothing.
 use native.Mathlib.Omega.{arith}
-use borrow.Author.Rules.{rules}
 use Rattle.bindings.proofs.first_table.Goals as goal
 
 pub returns-then-param : goal.returns-then-param

@@ -4,7 +4,6 @@ use mathlib.Core.Path.{ap, sym, ◌∙◌}
 use Rattle.names.specs.Names.{same_name}
 use Rattle.steps.specs.Naming.{same_as}
 use Rattle.bindings.proofs.Finding.{other_frame, other_use, same_frame_use}
-use borrow.Author.Rules.{rules}
 use Rattle.bindings.proofs.is_it.Goals as goal
 
 pub returns-then-entry-f : goal.returns-then-entry-f

@@ -1,6 +1,5 @@
 -- `bindings::last_table` meets its contract. Assumes nothing.
 use native.Mathlib.Omega.{arith}
-use borrow.Author.Rules.{rules}
 use Rattle.bindings.proofs.last_table.Goals as goal
 
 pub returns-then-param : goal.returns-then-param

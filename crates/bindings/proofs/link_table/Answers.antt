@@ -1,7 +1,6 @@
 -- `bindings::link_table` meets its contract. Assumes nothing.
 use borrow.Author.Tests.{eq-eqb, ne_eqb}
 use native.Mathlib.Omega.{arith}
-use borrow.Author.Rules.{rules}
 use Rattle.bindings.proofs.link_table.Goals as goal
 
 pub returns-then-last-eq0 : goal.returns-then-last-eq0

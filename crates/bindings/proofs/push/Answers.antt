@@ -1,7 +1,6 @@
 -- `bindings::push` meets its contract. Assumes nothing.
 use lib.ListN.{length-set}
 use native.Mathlib.Omega.{arith}
-use borrow.Author.Rules.{rules}
 use Rattle.bindings.proofs.push.Goals as goal
 
 pub bounds-made-cap : goal.bounds-made-cap

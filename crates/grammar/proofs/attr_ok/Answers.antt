@@ -1,6 +1,5 @@
 -- `grammar::attr_ok` meets its contract. Assumes nothing.
 use mathlib.Core.Path.{◌∙◌}
-use borrow.Author.Rules.{rules}
 use Rattle.grammar.proofs.Attrs.{placed, up-to-last}
 use Rattle.grammar.proofs.attr_ok.Goals as goal
 

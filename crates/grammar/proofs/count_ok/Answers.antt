@@ -1,6 +1,5 @@
 -- `grammar::count_ok` meets its contract. Assumes nothing.
 use mathlib.Core.Path.{◌∙◌}
-use borrow.Author.Rules.{rules}
 use Rattle.grammar.specs.Grammar.{count_ok}
 use Rattle.grammar.proofs.Masks.{in_set, by-attr, by_kind}
 use Rattle.grammar.proofs.count_ok.Goals as goal

@@ -1,7 +1,6 @@
 -- `grammar::first_place` meets its contract. Assumes nothing.
 use mathlib.Core.Path.{◌∙◌}
 use Rattle.grammar.proofs.Places.{first_head, first_function, first-same}
-use borrow.Author.Rules.{rules}
 use Rattle.grammar.proofs.first_place.Goals as goal
 
 pub returns-then-k-a : goal.returns-then-k-a

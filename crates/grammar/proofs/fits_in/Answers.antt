@@ -1,5 +1,4 @@
 -- `grammar::fits_in` meets its contract. Assumes nothing.
-use borrow.Author.Rules.{rules}
 use Rattle.grammar.specs.Grammar.{fits}
 use Rattle.grammar.proofs.Masks.{in_set}
 use Rattle.grammar.proofs.fits_in.Goals as goal

@@ -1,7 +1,6 @@
 -- `grammar::later_place` meets its contract. Assumes nothing.
 use mathlib.Core.Path.{◌∙◌}
 use Rattle.grammar.proofs.Places.{later_function, later_body, later_same}
-use borrow.Author.Rules.{rules}
 use Rattle.grammar.proofs.later_place.Goals as goal
 
 pub returns-then-k-a : goal.returns-then-k-a

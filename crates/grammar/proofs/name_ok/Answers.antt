@@ -2,13 +2,12 @@
 use Rattle.grammar.specs.Kinds.{Declarator, Ident, Member, Function, Class, Other, Opaque, Arguments}
 use mathlib.Core.Path.{◌≡◌, refl, sym, ◌∙◌}
 use mathlib.Core.Bool.{Bool, true, false, not, ◌&&◌, ◌||◌}
-use Prim.Native.Nat.{ℕ, ◌≤◌}
+use Prim.Native.Nat.{ℕ}
 use native.Mathlib.Omega.{arith}
 use borrow.Author.Tests.{eqb-true, ne_eqb, le-leb}
 use lib.Dec.{eqb, ltb, leb}
 use Rattle.names.proofs.Bools.{or-true}
 use Rattle.grammar.specs.Grammar.{names_one, name_ok}
-use borrow.Author.Rules.{rules}
 use Rattle.grammar.proofs.name_ok.Goals as goal
 
 either : (C : Type 0) (x y : Bool) → (x || y) ≡ true → (x ≡ true → C) → (y ≡ true → C) → C

@@ -3,7 +3,6 @@ use mathlib.Core.Path.{◌≡◌, ap, sym, subst, ◌∙◌}
 use Prim.Native.Nat.{ℕ, ◌<◌}
 use Rattle.grammar.specs.Grammar.{place_of}
 use Rattle.grammar.proofs.Places.{place-small, later_all}
-use borrow.Author.Rules.{rules}
 use Rattle.grammar.proofs.place_of.Goals as goal
 
 small : (k a pos : ℕ) {r : ℕ} → r ≡ place_of k a pos → (r ≡ place_of k a pos) × (r < 16)

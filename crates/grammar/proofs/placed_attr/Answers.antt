@@ -1,5 +1,4 @@
 -- `grammar::placed_attr` meets its contract. Assumes nothing.
-use borrow.Author.Rules.{rules}
 use Rattle.grammar.proofs.placed_attr.Goals as goal
 
 pub returns : goal.returns

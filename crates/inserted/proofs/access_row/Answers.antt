@@ -2,7 +2,6 @@
 use native.Mathlib.Omega.{arith}
 use Rattle.output.proofs.Writing.{leaf, nest, beside, named}
 use Rattle.inserted.proofs.Shapes.{access_computed, access_member, size_computed, size_member}
-use borrow.Author.Rules.{rules}
 use Rattle.inserted.proofs.access_row.Goals as goal
 
 pub overflow_cast-first : goal.overflow_cast-first

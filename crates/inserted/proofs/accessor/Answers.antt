@@ -3,7 +3,6 @@ use native.Mathlib.Omega.{arith}
 use Rattle.inserted.specs.Insertions.{accessor_of}
 use Rattle.output.proofs.Writing.{nest, then}
 use Rattle.inserted.proofs.Shapes.{size-accessor}
-use borrow.Author.Rules.{rules}
 use Rattle.inserted.proofs.accessor.Goals as goal
 
 pub params_row-mid-requires : goal.params_row-mid-requires

@@ -1,5 +1,5 @@
 -- `inserted::accessor_declarator` meets its contract. Assumes nothing.
-use mathlib.Core.Path.{◌≡◌, sym, ap, ◌∙◌}
+use mathlib.Core.Path.{◌≡◌, ap, ◌∙◌}
 use mathlib.Core.List.{List}
 use Prim.Native.Nat.{ℕ, ◌+◌}
 use native.Mathlib.Omega.{arith}
@@ -36,7 +36,7 @@ returns c =
     let second : c.accessor_behind.new.w ≡ grown (rowed c.new-w.result Declarator 1 a.b 0) f = c.accessor_behind.ensures.forest ∙ ap (λ (w : Writer). grown w f) first in
     let third : c.close.new.self ≡ closed (grown (rowed c.new-w.result Declarator 1 a.b 0) f) a.at = c.close.ensures.end ∙ ap (λ (w : Writer). closed w a.at) second in
     let left : c.finish.new.w.0 ≡ set_end (emit_rows (put c.new-w.result.rows.now c.new-w.result.at Declarator 1 a.b 0) (c.new-w.result.at + 1) f) a.at (c.new-w.result.at + 1 + size f) =
-        c.finish.ensures.1 ∙ ap (λ (w : Writer). w.rows.now) third in
+    c.finish.ensures.1 ∙ ap (λ (w : Writer). w.rows.now) third in
     let n = c.new-w.ensures.1 in
     let o : c.new-w.result.rows.now ≡ a.out.now = ap (λ (r : MutBor (List ℕ)). r.now) c.new-w.ensures.0 in
     around a.out.now a.at Declarator 1 a.b f _ _ (c.finish.ensures.0 ∙ ap (λ (w : Writer). w.at) third ∙ ap (λ (m : ℕ). m + 1 + size f) n) (search rules)

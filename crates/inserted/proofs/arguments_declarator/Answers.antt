@@ -2,7 +2,6 @@
 use native.Mathlib.Omega.{arith}
 use Rattle.output.proofs.Writing.{nothing, named}
 use Rattle.inserted.proofs.Shapes.{arguments_none, arguments_some, size_arguments}
-use borrow.Author.Rules.{rules}
 use Rattle.inserted.proofs.arguments_declarator.Goals as goal
 
 pub returns-then-b-eq0 : goal.returns-then-b-eq0

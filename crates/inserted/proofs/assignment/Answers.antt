@@ -4,7 +4,6 @@ use Rattle.grammar.specs.Kinds.{Target, Ident}
 use Rattle.steps.specs.AfterSuper.{assignment}
 use Rattle.output.proofs.Writing.{nest, beside, leaf}
 use Rattle.output.proofs.Runs.{size-pair}
-use borrow.Author.Rules.{rules}
 use Rattle.inserted.proofs.assignment.Goals as goal
 
 pub overflow_add-this : goal.overflow_add-this

@@ -4,7 +4,6 @@ use mathlib.Core.Path.{ap}
 use Rattle.forest.specs.Forest.{size}
 use Rattle.output.proofs.Writing.{leaf, nest, beside, named}
 use Rattle.inserted.proofs.Shapes.{body_set, body_get, size-set}
-use borrow.Author.Rules.{rules}
 use Rattle.inserted.proofs.body_row.Goals as goal
 
 pub append-first-requires : goal.append-first-requires

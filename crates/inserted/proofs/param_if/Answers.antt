@@ -2,7 +2,6 @@
 use native.Mathlib.Omega.{arith}
 use Rattle.output.proofs.Writing.{nothing, leaf, named}
 use Rattle.inserted.proofs.Shapes.{param_yes, param_no, size_param}
-use borrow.Author.Rules.{rules}
 use Rattle.inserted.proofs.param_if.Goals as goal
 
 pub overflow_cast-at : goal.overflow_cast-at

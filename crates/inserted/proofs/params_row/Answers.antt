@@ -3,7 +3,6 @@ use native.Mathlib.Omega.{arith}
 use Rattle.inserted.specs.Insertions.{params_row}
 use Rattle.output.proofs.Writing.{nest, then}
 use Rattle.inserted.proofs.Shapes.{size_params}
-use borrow.Author.Rules.{rules}
 use Rattle.inserted.proofs.params_row.Goals as goal
 
 pub param_if-mid-requires : goal.param_if-mid-requires

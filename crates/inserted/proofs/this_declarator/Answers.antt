@@ -2,7 +2,6 @@
 use native.Mathlib.Omega.{arith}
 use Rattle.output.proofs.Writing.{nothing, leaf, named}
 use Rattle.inserted.proofs.Shapes.{this_none, this_late, this_here, size-late, size-here}
-use borrow.Author.Rules.{rules}
 use Rattle.inserted.proofs.this_declarator.Goals as goal
 
 pub returns-then-b-eq0 : goal.returns-then-b-eq0

@@ -1,9 +1,6 @@
 -- `insertion::accessor_declarators` meets its contract. Assumes nothing.
-use Prim.Native.Nat.{◌+◌, ◌-◌}
-use mathlib.Core.Bool.{cond}
-use lib.Dec.{eqb}
 use native.Mathlib.Omega.{arith}
-use Rattle.insertion.proofs.Declaring.{Going, going_start, going-low, going-room, going-value, going_next, going_less, going_done}
+use Rattle.insertion.proofs.Declaring.{going_start, going-low, going-room, going-value, going_next, going_less, going_done}
 use Rattle.insertion.proofs.accessor_declarators.Goals as goal
 
 pub overflow_mul-cap : goal.overflow_mul-cap

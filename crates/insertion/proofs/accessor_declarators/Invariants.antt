@@ -2,8 +2,7 @@
 use Prim.Native.Nat.{◌+◌, ◌-◌}
 use mathlib.Core.Bool.{cond}
 use lib.Dec.{eqb}
-use native.Mathlib.Omega.{arith}
-use Rattle.insertion.proofs.Declaring.{Going, going_start, going-low, going-room, going-value, going_next, going_less, going_done}
+use Rattle.insertion.proofs.Declaring.{Going}
 use Rattle.insertion.proofs.accessor_declarators.Given as goal
 
 abbrev pub invariant-loop-b : goal.invariant-loop-b

@@ -1,6 +1,5 @@
 -- `insertion::after` meets its contract. Assumes nothing.
 use borrow.Author.Tests.{ne_eqb}
-use borrow.Author.Rules.{rules}
 use Rattle.insertion.proofs.after.Goals as goal
 
 pub returns-then-p-eq0 : goal.returns-then-p-eq0

@@ -2,7 +2,6 @@
 use native.Mathlib.Omega.{arith}
 use Rattle.output.proofs.Writing.{then, named}
 use Rattle.insertion.proofs.Tops.{parts_of, size_of}
-use borrow.Author.Rules.{rules}
 use Rattle.insertion.proofs.declarators.Goals as goal
 
 pub arguments_declarator-first-requires : goal.arguments_declarator-first-requires

@@ -3,7 +3,6 @@ use native.Mathlib.Omega.{arith}
 use mathlib.Core.Path.{sym, ◌∙◌}
 use Rattle.output.proofs.Writing.{nothing, named, size_as}
 use Rattle.insertion.proofs.Tops.{bare-none, bare-some}
-use borrow.Author.Rules.{rules}
 use Rattle.insertion.proofs.insert_variable_statement_at_the_top_of_statements.Goals as goal
 
 pub returns-then-is_bare : goal.returns-then-is_bare

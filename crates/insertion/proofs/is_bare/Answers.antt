@@ -1,5 +1,4 @@
 -- `insertion::is_bare` meets its contract. Assumes nothing.
-use borrow.Author.Rules.{rules}
 use Rattle.insertion.proofs.is_bare.Goals as goal
 
 pub returns : goal.returns

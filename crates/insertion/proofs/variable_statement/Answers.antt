@@ -1,5 +1,5 @@
 -- `insertion::variable_statement` meets its contract. Assumes nothing.
-use mathlib.Core.Path.{◌≡◌, sym, ap, ◌∙◌}
+use mathlib.Core.Path.{◌≡◌, ap, ◌∙◌}
 use mathlib.Core.List.{List}
 use Prim.Native.Nat.{ℕ, ◌+◌}
 use native.Mathlib.Omega.{arith}
@@ -36,7 +36,7 @@ returns c =
     let second : c.declare.new.w ≡ grown (rowed c.new-w.result Var 0 0 0) f = c.declare.ensures.forest ∙ ap (λ (w : Writer). grown w f) first in
     let third : c.close.new.self ≡ closed (grown (rowed c.new-w.result Var 0 0 0) f) a.at = c.close.ensures.end ∙ ap (λ (w : Writer). closed w a.at) second in
     let left : c.finish.new.w.0 ≡ set_end (emit_rows (put c.new-w.result.rows.now c.new-w.result.at Var 0 0 0) (c.new-w.result.at + 1) f) a.at (c.new-w.result.at + 1 + size f) =
-        c.finish.ensures.1 ∙ ap (λ (w : Writer). w.rows.now) third in
+    c.finish.ensures.1 ∙ ap (λ (w : Writer). w.rows.now) third in
     let n = c.new-w.ensures.1 in
     let o : c.new-w.result.rows.now ≡ a.out.now = ap (λ (r : MutBor (List ℕ)). r.now) c.new-w.ensures.0 in
     around a.out.now a.at Var 0 0 f _ _ (c.finish.ensures.0 ∙ ap (λ (w : Writer). w.at) third ∙ ap (λ (m : ℕ). m + 1 + size f) n) (search rules)

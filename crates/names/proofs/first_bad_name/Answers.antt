@@ -1,9 +1,7 @@
 -- `names::first_bad_name` meets its contract. Assumes nothing.
-use Prim.Native.Nat.{ℕ, ◌-◌, ◌+◌, ◌*◌, ◌/◌, ◌<◌, ◌≤◌}
-use mathlib.Core.Path.{◌≡◌, refl, sym, ap, subst, ◌∙◌}
-use lib.ListN.{length}
-use Rattle.names.specs.Names.{bad_name, first_bad_name}
-use Rattle.names.proofs.Seeking.{Seek, seek-start, seek-next, seek_found, seek-none}
+use mathlib.Core.Path.{sym, ◌∙◌}
+use Rattle.names.specs.Names.{first_bad_name}
+use Rattle.names.proofs.Seeking.{seek-start, seek-next, seek_found, seek-none}
 use native.Mathlib.Omega.{arith}
 use Rattle.names.proofs.first_bad_name.Goals as goal
 

@@ -1,10 +1,8 @@
 -- `names::first_bad_name` meets its contract. Assumes nothing.
-use Prim.Native.Nat.{ℕ, ◌-◌, ◌+◌, ◌*◌, ◌/◌, ◌<◌, ◌≤◌}
-use mathlib.Core.Path.{◌≡◌, refl, sym, ap, subst, ◌∙◌}
+use Prim.Native.Nat.{◌-◌, ◌+◌, ◌/◌}
 use lib.ListN.{length}
-use Rattle.names.specs.Names.{bad_name, first_bad_name}
-use Rattle.names.proofs.Seeking.{Seek, seek-start, seek-next, seek_found, seek-none}
-use native.Mathlib.Omega.{arith}
+use Rattle.names.specs.Names.{bad_name}
+use Rattle.names.proofs.Seeking.{Seek}
 use Rattle.names.proofs.first_bad_name.Given as goal
 
 abbrev pub invariant-loop-k : goal.invariant-loop-k

@@ -2,7 +2,6 @@
 use native.Mathlib.Omega.{arith}
 use mathlib.Core.Path.{refl, sym}
 use Rattle.output.proofs.Writing.{put_in, put_out}
-use borrow.Author.Rules.{rules}
 use Rattle.output.proofs.append_row.Goals as goal
 
 pub returns-then-b-out : goal.returns-then-b-out

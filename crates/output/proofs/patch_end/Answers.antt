@@ -2,7 +2,6 @@
 use native.Mathlib.Omega.{arith}
 use mathlib.Core.Path.{sym}
 use Rattle.output.proofs.Writing.{end_in, end_out}
-use borrow.Author.Rules.{rules}
 use Rattle.output.proofs.patch_end.Goals as goal
 
 pub returns-then-b-out : goal.returns-then-b-out

@@ -2,7 +2,6 @@
 use native.Mathlib.Omega.{arith}
 use mathlib.Core.Path.{refl, sym}
 use Rattle.output.proofs.Recording.{record_in, record_out}
-use borrow.Author.Rules.{rules}
 use Rattle.output.proofs.put_record.Goals as goal
 
 pub returns-then-first-out : goal.returns-then-first-out

@@ -1,5 +1,4 @@
 -- `passes::anew` meets its contract. Assumes nothing.
-use borrow.Author.Rules.{rules}
 use Rattle.steps.specs.Fused.{anew}
 use Rattle.passes.proofs.anew.Goals as goal
 

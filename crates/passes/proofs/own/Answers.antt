@@ -1,6 +1,5 @@
 -- `passes::own` meets its contract. Assumes nothing.
 use borrow.Author.Tests.{ne_eqb}
-use borrow.Author.Rules.{rules}
 use Rattle.steps.specs.Fused.{own}
 use Rattle.passes.proofs.own.Goals as goal
 

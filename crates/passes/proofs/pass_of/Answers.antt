@@ -1,16 +1,14 @@
 -- `passes::pass_of` meets its contract. Assumes nothing.
-use mathlib.Core.Path.{◌≡◌, refl, sym, ◌∙◌}
+use mathlib.Core.Path.{◌≡◌, refl}
 use mathlib.Core.Bool.{Bool, true, false, cond, not, ◌&&◌, false≢true}
 use Prim.Native.Nat.{ℕ}
 use lib.Dec.{eqb}
-use borrow.Author.Rules.{rules}
 use Rattle.steps.specs.Slots.{late_body, wrapped}
 use Rattle.steps.specs.Acts.{Op, Op.row, Op.drop, Op.name, Op.call}
 use Rattle.steps.specs.Bindings.{closes}
 use Rattle.steps.specs.AfterSuper.{copy}
 use Rattle.steps.specs.Fused.{met_of, direct_of, within, own, scan_of, next_of, anew, pass_of}
 use Rattle.steps.proofs.Credit.{eqb-eq}
-use Rattle.passes.specs.View.{op_of}
 use Rattle.passes.proofs.pass_of.Goals as goal
 
 both : (x y : Bool) → (x && y) ≡ true → (x ≡ true) × (y ≡ true)

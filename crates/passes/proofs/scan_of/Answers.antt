@@ -1,5 +1,4 @@
 -- `passes::scan_of` meets its contract. Assumes nothing.
-use borrow.Author.Rules.{rules}
 use Rattle.steps.specs.Fused.{scan_of}
 use Rattle.passes.specs.View.{op_of}
 use Rattle.passes.proofs.scan_of.Goals as goal

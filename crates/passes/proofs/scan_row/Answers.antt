@@ -1,6 +1,5 @@
 -- `passes::scan_row` meets its contract. Assumes nothing.
 use borrow.Author.Tests.{ne_eqb}
-use borrow.Author.Rules.{rules}
 use Rattle.steps.specs.Fused.{scan_of}
 use Rattle.passes.proofs.scan_row.Goals as goal
 

@@ -1,7 +1,6 @@
 -- `plan::act_at` meets its contract. Assumes nothing.
 use mathlib.Core.Path.{ap, ◌∙◌}
 use Rattle.passes.specs.View.{op_of}
-use borrow.Author.Rules.{rules}
 use Rattle.plan.proofs.act_at.Goals as goal
 
 pub returns : goal.returns

@@ -7,7 +7,6 @@ use Rattle.acts.specs.View.{switches_of, context_of}
 use Rattle.plan.proofs.Frames.{placeable, handed}
 use Rattle.plan.proofs.Taking.{takes_at}
 use native.Mathlib.Omega.{arith}
-use borrow.Author.Rules.{rules}
 use Rattle.plan.proofs.any_act.Goals as goal
 
 pub hand_on-requires : goal.hand_on-requires

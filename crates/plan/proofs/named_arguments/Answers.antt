@@ -1,5 +1,4 @@
 -- `plan::named_arguments` meets its contract. Assumes nothing.
-use borrow.Author.Rules.{rules}
 use Rattle.plan.proofs.named_arguments.Goals as goal
 
 pub returns : goal.returns

@@ -1,5 +1,4 @@
 -- `plan::part_by_part` meets its contract. Assumes nothing.
-use borrow.Author.Rules.{rules}
 use Rattle.plan.proofs.part_by_part.Goals as goal
 
 pub returns-in-Row : goal.returns-in-Row

@@ -5,8 +5,6 @@ use Rattle.below.specs.Below.{children}
 use Rattle.acts.specs.View.{switches_of}
 use Rattle.plan.specs.Placing.{place_of}
 use Rattle.plan.proofs.Taking.{takes_of}
-use native.Mathlib.Omega.{arith}
-use borrow.Author.Rules.{rules}
 use Rattle.plan.proofs.row_act.Goals as goal
 
 pub returns-then-kind-eq-THIS : goal.returns-then-kind-eq-THIS

@@ -1,5 +1,4 @@
 -- `rows::sizes_ok` meets its contract. Assumes nothing.
-use borrow.Author.Rules.{rules}
 use Rattle.rows.proofs.sizes_ok.Goals as goal
 
 pub returns : goal.returns

@@ -1,8 +1,6 @@
 -- `spelling::hash` meets its contract. Assumes nothing.
 use mathlib.Core.Path.{refl, sym, ap, ◌∙◌}
 use native.Mathlib.Omega.{arith}
-use borrow.Author.Tests.{not-true, not-false}
-use borrow.Author.Rules.{rules}
 use Rattle.spelling.specs.Hash.{hash_of}
 use Rattle.spelling.proofs.Bytes.{is_some, good, its_bytes}
 use Rattle.spelling.proofs.Hashing.{hash_none}

@@ -1,10 +1,7 @@
 -- `spelling::hash_bytes` meets its contract. Assumes nothing.
 use mathlib.Core.Path.{refl}
-use Prim.Native.Nat.{◌-◌}
 use native.Mathlib.Omega.{arith}
-use borrow.Author.Rules.{rules}
-use lib.ListN.{length}
-use Rattle.spelling.proofs.Hashing.{Hashing, hashed_byte, hashed_all}
+use Rattle.spelling.proofs.Hashing.{hashed_byte, hashed_all}
 use Rattle.spelling.proofs.hash_bytes.Goals as goal
 
 pub loop-i-init : goal.loop-i-init

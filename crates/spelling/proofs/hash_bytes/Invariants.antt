@@ -1,10 +1,7 @@
 -- `spelling::hash_bytes` meets its contract. Assumes nothing.
-use mathlib.Core.Path.{refl}
 use Prim.Native.Nat.{◌-◌}
-use native.Mathlib.Omega.{arith}
-use borrow.Author.Rules.{rules}
 use lib.ListN.{length}
-use Rattle.spelling.proofs.Hashing.{Hashing, hashed_byte, hashed_all}
+use Rattle.spelling.proofs.Hashing.{Hashing}
 use Rattle.spelling.proofs.hash_bytes.Given as goal
 
 abbrev pub invariant-loop-i : goal.invariant-loop-i

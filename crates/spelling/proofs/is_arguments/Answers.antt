@@ -1,9 +1,7 @@
 -- `spelling::is_arguments` meets its contract. Assumes nothing.
 use mathlib.Core.Path.{sym, ◌∙◌}
-use borrow.Author.Tests.{not-true, not-false}
 use Rattle.names.specs.Names.{arguments_bytes, is_arguments}
 use Rattle.spelling.proofs.Bytes.{not_arguments}
-use borrow.Author.Rules.{rules}
 use Rattle.spelling.proofs.is_arguments.Goals as goal
 
 pub returns-then-not-is_name : goal.returns-then-not-is_name

@@ -5,7 +5,6 @@ use Prim.Native.Nat.{ℕ}
 use mathlib.Core.List.{List}
 use Rattle.names.specs.Names.{same_bytes}
 use Rattle.spelling.proofs.Bytes.{is_some, good, its_bytes}
-use borrow.Author.Rules.{rules}
 use Rattle.spelling.proofs.is_spelled.Goals as goal
 
 pub overflow_sub-pair : goal.overflow_sub-pair

@@ -1,10 +1,7 @@
 -- `spelling::same_bytes` meets its contract. Assumes nothing.
-use mathlib.Core.Path.{◌≡◌, refl, sym}
-use Prim.Native.Nat.{◌-◌}
+use mathlib.Core.Path.{refl, sym}
 use native.Mathlib.Omega.{arith}
-use borrow.Author.Rules.{rules}
-use lib.ListN.{length}
-use Rattle.spelling.proofs.Bytes.{From, from_next, from_differs, from_end, bytes_apart}
+use Rattle.spelling.proofs.Bytes.{from_next, from_differs, from_end, bytes_apart}
 use Rattle.spelling.proofs.same_bytes.Goals as goal
 
 pub returns-then-a-b : goal.returns-then-a-b

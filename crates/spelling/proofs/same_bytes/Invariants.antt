@@ -1,10 +1,8 @@
 -- `spelling::same_bytes` meets its contract. Assumes nothing.
-use mathlib.Core.Path.{◌≡◌, refl, sym}
+use mathlib.Core.Path.{◌≡◌}
 use Prim.Native.Nat.{◌-◌}
-use native.Mathlib.Omega.{arith}
-use borrow.Author.Rules.{rules}
 use lib.ListN.{length}
-use Rattle.spelling.proofs.Bytes.{From, from_next, from_differs, from_end, bytes_apart}
+use Rattle.spelling.proofs.Bytes.{From}
 use Rattle.spelling.proofs.same_bytes.Given as goal
 
 abbrev pub invariant-loop-i : goal.invariant-loop-i

@@ -2,8 +2,6 @@
 use mathlib.Core.Path.{refl, sym, ◌∙◌}
 use Prim.Native.Nat.{◌+◌}
 use native.Mathlib.Omega.{arith}
-use borrow.Author.Tests.{not-true, not-false}
-use borrow.Author.Rules.{rules}
 use Rattle.names.specs.Names.{same_name}
 use Rattle.spelling.proofs.Bytes.{is_some, good, its_bytes, none_first, none_second}
 use Rattle.spelling.proofs.same_name.Goals as goal

@@ -1,9 +1,7 @@
 -- `acts::act::decide` meets its contract. Assumes nothing.
-use mathlib.Core.Path.{◌≡◌}
 use Rattle.steps.specs.Acts.{Kind}
 use Rattle.acts.specs.View.{switches_of, context_of}
 use Rattle.acts.proofs.Branches.{by_kind, is_this, is_super, is-ident, is_access, is_call, is_assign, is-arrow, is-function, is_keyed, is_field, is_static, is-target, is-other}
-use borrow.Author.Rules.{rules}
 use Rattle.acts.proofs.act.decide.Goals as goal
 
 pub returns-then-kind-eq-THIS : goal.returns-then-kind-eq-THIS

@@ -1,5 +1,5 @@
 -- `acts::act::kept` meets its contract. Assumes nothing.
-use mathlib.Core.Path.{◌≡◌, refl, ap, sym, ◌∙◌}
+use mathlib.Core.Path.{refl}
 use Rattle.passes.specs.View.{op_of}
 use Rattle.acts.proofs.act.kept.Goals as goal
 

@@ -1,9 +1,8 @@
 -- `acts::act::on_access` meets its contract. Assumes nothing.
-use mathlib.Core.Path.{◌≡◌, refl, ap, sym, ◌∙◌}
-use Rattle.acts.specs.View.{context_of, switches_of}
+use mathlib.Core.Path.{refl}
+use Rattle.acts.specs.View.{context_of}
 use Rattle.acts.proofs.Branches.{decided_along, access-kept, access-gone, access-read}
 use Rattle.passes.specs.View.{op_of}
-use borrow.Author.Rules.{rules}
 use Rattle.std.proofs.lemmas.Bool.{not_from_false, not_from_true}
 use Rattle.acts.proofs.act.on_access.Goals as goal
 

@@ -1,9 +1,8 @@
 -- `acts::act::on_arrow` meets its contract. Assumes nothing.
-use mathlib.Core.Path.{◌≡◌, refl, ap, sym, ◌∙◌}
+use mathlib.Core.Path.{refl}
 use Rattle.acts.specs.View.{context_of, switches_of}
 use Rattle.acts.proofs.Branches.{decided, arrow-kept, arrow-wrapped, arrow-bodied}
 use Rattle.passes.specs.View.{op_of}
-use borrow.Author.Rules.{rules}
 use Rattle.acts.proofs.act.on_arrow.Goals as goal
 
 pub returns-then-is_enabled-asynchronous : goal.returns-then-is_enabled-asynchronous

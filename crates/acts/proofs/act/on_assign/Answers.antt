@@ -1,9 +1,8 @@
 -- `acts::act::on_assign` meets its contract. Assumes nothing.
-use mathlib.Core.Path.{◌≡◌, refl, ap, sym, ◌∙◌}
-use Rattle.acts.specs.View.{context_of, switches_of}
+use mathlib.Core.Path.{refl}
+use Rattle.acts.specs.View.{context_of}
 use Rattle.acts.proofs.Branches.{decided_along, assign-yes, assign-no}
 use Rattle.passes.specs.View.{op_of}
-use borrow.Author.Rules.{rules}
 use Rattle.acts.proofs.act.on_assign.Goals as goal
 
 pub returns-then-context-access : goal.returns-then-context-access

@@ -1,8 +1,6 @@
 -- `acts::act::on_call` meets its contract. Assumes nothing.
-use mathlib.Core.Path.{◌≡◌, refl, ap, sym, ◌∙◌}
-use Rattle.acts.specs.View.{context_of, switches_of}
+use Rattle.acts.specs.View.{context_of}
 use Rattle.acts.proofs.Branches.{decided_along, call-yes, call-no}
-use borrow.Author.Rules.{rules}
 use Rattle.acts.proofs.act.on_call.Goals as goal
 
 pub returns-then-context-access : goal.returns-then-context-access

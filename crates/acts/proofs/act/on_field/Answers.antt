@@ -1,8 +1,6 @@
 -- `acts::act::on_field` meets its contract. Assumes nothing.
-use mathlib.Core.Path.{◌≡◌, refl, ap, sym, ◌∙◌}
 use Rattle.acts.specs.View.{context_of, switches_of}
 use Rattle.acts.proofs.Branches.{decided, stay, field-computed, field-named}
-use borrow.Author.Rules.{rules}
 use Rattle.acts.proofs.act.on_field.Goals as goal
 
 pub returns-then-has_bit : goal.returns-then-has_bit

@@ -1,8 +1,6 @@
 -- `acts::act::on_function` meets its contract. Assumes nothing.
-use mathlib.Core.Path.{◌≡◌, refl, ap, sym, ◌∙◌}
 use Rattle.acts.specs.View.{context_of, switches_of}
 use Rattle.acts.proofs.Branches.{decided, function_late, function_plain}
-use borrow.Author.Rules.{rules}
 use Rattle.acts.proofs.act.on_function.Goals as goal
 
 pub returns-then-late : goal.returns-then-late

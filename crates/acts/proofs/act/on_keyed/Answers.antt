@@ -1,8 +1,6 @@
 -- `acts::act::on_keyed` meets its contract. Assumes nothing.
-use mathlib.Core.Path.{◌≡◌, refl, ap, sym, ◌∙◌}
-use Rattle.acts.specs.View.{context_of, switches_of}
+use Rattle.acts.specs.View.{context_of}
 use Rattle.acts.proofs.Branches.{decided, stay, keyed-plain, keyed-computed, keyed-named}
-use borrow.Author.Rules.{rules}
 use Rattle.std.proofs.lemmas.Bool.{not_from_false, not_from_true}
 use Rattle.acts.proofs.act.on_keyed.Goals as goal
 

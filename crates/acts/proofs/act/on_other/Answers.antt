@@ -1,8 +1,6 @@
 -- `acts::act::on_other` meets its contract. Assumes nothing.
-use mathlib.Core.Path.{◌≡◌, refl, ap, sym, ◌∙◌}
-use Rattle.acts.specs.View.{context_of, switches_of}
+use Rattle.acts.specs.View.{context_of}
 use Rattle.acts.proofs.Branches.{decided_along, other-act}
-use borrow.Author.Rules.{rules}
 use Rattle.acts.proofs.act.on_other.Goals as goal
 
 pub returns : goal.returns

@@ -1,8 +1,6 @@
 -- `acts::act::on_static` meets its contract. Assumes nothing.
-use mathlib.Core.Path.{◌≡◌, refl, ap, sym, ◌∙◌}
 use Rattle.acts.specs.View.{context_of, switches_of}
 use Rattle.acts.proofs.Branches.{decided, static_act}
-use borrow.Author.Rules.{rules}
 use Rattle.acts.proofs.act.on_static.Goals as goal
 
 pub returns : goal.returns

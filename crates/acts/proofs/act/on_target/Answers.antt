@@ -1,9 +1,8 @@
 -- `acts::act::on_target` meets its contract. Assumes nothing.
-use mathlib.Core.Path.{◌≡◌, refl, ap, sym, ◌∙◌}
-use Rattle.acts.specs.View.{context_of, switches_of}
+use mathlib.Core.Path.{refl}
+use Rattle.acts.specs.View.{context_of}
 use Rattle.acts.proofs.Branches.{decided_along, target_yes, target_no}
 use Rattle.passes.specs.View.{op_of}
-use borrow.Author.Rules.{rules}
 use Rattle.acts.proofs.act.on_target.Goals as goal
 
 pub returns-then-q-eq-DROPPED : goal.returns-then-q-eq-DROPPED

@@ -1,7 +1,6 @@
 -- `acts::switches::has_bit` meets its contract. Assumes nothing.
 use mathlib.Core.Path.{refl}
 use Rattle.steps.specs.Mode.{bit}
-use borrow.Author.Rules.{rules}
 use Rattle.acts.proofs.switches.has_bit.Goals as goal
 
 pub returns : goal.returns

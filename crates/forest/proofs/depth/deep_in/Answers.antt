@@ -1,13 +1,12 @@
 -- `forest::depth::deep_in` meets its contract. Assumes nothing.
-use Prim.Native.Nat.{ℕ, ◌-◌, ◌+◌, ◌*◌, ◌/◌, ◌<◌, ◌≤◌}
+use Prim.Native.Nat.{ℕ, ◌+◌, ◌≤◌}
 use mathlib.Core.List.{List}
 use mathlib.Core.Path.{◌≡◌, refl, sym, ap, subst, ◌∙◌}
 use borrow.Author.Tests.{lt-ltb, le-ltb}
 use lib.Dec.{ltb}
-use lib.ListN.{length, get_or}
-use Rattle.names.specs.Words.{words}
+use lib.ListN.{get_or}
 use Rattle.forest.specs.Told.{told_by, to_all, deeper, depth_at, first_deep}
-use Rattle.names.proofs.Seeking.{Seek, seek-start, seek-next, seek_found, seek-none}
+use Rattle.names.proofs.Seeking.{seek-start, seek-next, seek_found, seek-none}
 use Rattle.forest.proofs.Telling.{told_fresh, told-on}
 use native.Mathlib.Omega.{arith}
 use Rattle.forest.proofs.depth.deep_in.Goals as goal

@@ -1,15 +1,11 @@
 -- `forest::depth::deep_in` meets its contract. Assumes nothing.
-use Prim.Native.Nat.{ℕ, ◌-◌, ◌+◌, ◌*◌, ◌/◌, ◌<◌, ◌≤◌}
-use mathlib.Core.List.{List}
-use mathlib.Core.Path.{◌≡◌, refl, sym, ap, subst, ◌∙◌}
-use borrow.Author.Tests.{lt-ltb, le-ltb}
+use Prim.Native.Nat.{ℕ, ◌-◌}
+use mathlib.Core.Path.{◌≡◌}
 use lib.Dec.{ltb}
 use lib.ListN.{length, get_or}
 use Rattle.names.specs.Words.{words}
-use Rattle.forest.specs.Told.{told_by, to_all, deeper, depth_at, first_deep}
-use Rattle.names.proofs.Seeking.{Seek, seek-start, seek-next, seek_found, seek-none}
-use Rattle.forest.proofs.Telling.{told_fresh, told-on}
-use native.Mathlib.Omega.{arith}
+use Rattle.forest.specs.Told.{told_by, deeper, depth_at}
+use Rattle.names.proofs.Seeking.{Seek}
 use Rattle.forest.proofs.depth.deep_in.Given as goal
 
 abbrev pub invariant-loop-i : goal.invariant-loop-i

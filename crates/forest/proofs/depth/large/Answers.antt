@@ -1,7 +1,6 @@
 -- `forest::depth::large` meets its contract. Assumes nothing.
 use native.Mathlib.Omega.{arith}
 use Rattle.forest.proofs.Telling.{zeros-fresh}
-use borrow.Author.Rules.{rules}
 use Rattle.forest.proofs.depth.large.Goals as goal
 
 pub deep_in-requires : goal.deep_in-requires

@@ -1,12 +1,10 @@
 -- `forest::depth::tell` meets its contract. Assumes nothing.
-use Prim.Native.Nat.{ℕ, ◌-◌, ◌+◌, ◌*◌, ◌/◌, ◌<◌, ◌≤◌}
-use mathlib.Core.Path.{◌≡◌, refl, sym, ap, subst, ◌∙◌}
+use Prim.Native.Nat.{◌+◌, ◌<◌}
+use mathlib.Core.Path.{refl, ◌∙◌}
 use borrow.Author.Tests.{ltb-true}
-use lib.ListN.{length, length-set}
-use Rattle.names.specs.Words.{words}
-use Rattle.forest.specs.Told.{to_all}
+use lib.ListN.{length-set}
 use Rattle.names.proofs.Bools.{and_left}
-use Rattle.forest.proofs.Telling.{Telling, tell_start, tell-next, tell-last, tell_done}
+use Rattle.forest.proofs.Telling.{tell_start, tell-next, tell-last, tell_done}
 use native.Mathlib.Omega.{arith}
 use Rattle.forest.proofs.depth.tell.Goals as goal
 

@@ -1,13 +1,9 @@
 -- `forest::depth::tell` meets its contract. Assumes nothing.
-use Prim.Native.Nat.{ℕ, ◌-◌, ◌+◌, ◌*◌, ◌/◌, ◌<◌, ◌≤◌}
-use mathlib.Core.Path.{◌≡◌, refl, sym, ap, subst, ◌∙◌}
-use borrow.Author.Tests.{ltb-true}
-use lib.ListN.{length, length-set}
+use Prim.Native.Nat.{ℕ, ◌-◌}
+use lib.ListN.{length}
 use Rattle.names.specs.Words.{words}
 use Rattle.forest.specs.Told.{to_all}
-use Rattle.names.proofs.Bools.{and_left}
-use Rattle.forest.proofs.Telling.{Telling, tell_start, tell-next, tell-last, tell_done}
-use native.Mathlib.Omega.{arith}
+use Rattle.forest.proofs.Telling.{Telling}
 use Rattle.forest.proofs.depth.tell.Given as goal
 
 abbrev pub invariant-loop-c : goal.invariant-loop-c

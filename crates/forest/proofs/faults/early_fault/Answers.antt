@@ -1,7 +1,6 @@
 -- `forest::faults::early_fault` meets its contract. Each way out rewrites with the tests that led there. Assumes nothing.
 use Rattle.forest.specs.Faults.{early_fault}
 use mathlib.Core.Path.{sym, ◌∙◌}
-use borrow.Author.Rules.{rules}
 use borrow.Author.Tests.{not-false}
 use Rattle.std.proofs.lemmas.Bool.{not_from_false, not_from_true}
 use Rattle.forest.proofs.faults.early_fault.Goals as goal

@@ -1,7 +1,6 @@
 -- `forest::faults::first_fault` meets its contract. Assumes nothing.
 use mathlib.Core.Path.{◌∙◌, sym}
 use Rattle.forest.proofs.Descent.{first-lowest}
-use borrow.Author.Rules.{rules}
 use Rattle.forest.proofs.faults.first_fault.Goals as goal
 
 pub returns-then-n-le64 : goal.returns-then-n-le64

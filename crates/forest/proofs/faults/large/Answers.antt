@@ -1,7 +1,6 @@
 -- `forest::faults::large` meets its contract. Assumes nothing.
 use native.Mathlib.Omega.{arith}
 use Rattle.forest.proofs.Telling.{zeros-fresh}
-use borrow.Author.Rules.{rules}
 use Rattle.forest.proofs.faults.large.Goals as goal
 
 pub lowest_fault-requires : goal.lowest_fault-requires

@@ -1,6 +1,5 @@
 -- `forest::faults::late_fault` meets its contract. Each way out rewrites with the tests that led there. Assumes nothing.
 use Rattle.forest.specs.Faults.{late_fault}
-use borrow.Author.Rules.{rules}
 use Rattle.std.proofs.lemmas.Bool.{not_from_false, not_from_true}
 use Rattle.forest.proofs.faults.late_fault.Goals as goal
 

@@ -1,6 +1,6 @@
 -- `forest::faults::mark_children` meets its contract. Assumes nothing.
-use Prim.Native.Nat.{ℕ, ◌-◌, ◌+◌, ◌*◌, ◌/◌, ◌<◌, ◌≤◌}
-use mathlib.Core.Path.{◌≡◌, refl, sym, ap, subst, ◌∙◌}
+use Prim.Native.Nat.{◌+◌, ◌<◌}
+use mathlib.Core.Path.{◌≡◌, refl, ◌∙◌}
 use borrow.Author.Tests.{ltb-true}
 use lib.ListN.{length, length-set}
 use Rattle.names.specs.Words.{words, end_at}
@@ -8,9 +8,8 @@ use Rattle.grammar.specs.Grammar.{place_of}
 use Rattle.forest.specs.Told.{says}
 use Rattle.names.proofs.Bools.{and_left}
 use Rattle.grammar.proofs.Places.{later_all}
-use Rattle.forest.proofs.Telling.{Telling, tell_start, tell-next, tell-last, tell_done}
+use Rattle.forest.proofs.Telling.{tell_start, tell-next, tell-last, tell_done}
 use Rattle.forest.proofs.Visits.{said_good, said_bad}
-use borrow.Author.Rules.{rules}
 use native.Mathlib.Omega.{arith}
 use Rattle.forest.proofs.faults.mark_children.Goals as goal
 

@@ -1,17 +1,11 @@
 -- `forest::faults::mark_children` meets its contract. Assumes nothing.
-use Prim.Native.Nat.{ℕ, ◌-◌, ◌+◌, ◌*◌, ◌/◌, ◌<◌, ◌≤◌}
-use mathlib.Core.Path.{◌≡◌, refl, sym, ap, subst, ◌∙◌}
-use borrow.Author.Tests.{ltb-true}
-use lib.ListN.{length, length-set}
-use Rattle.names.specs.Words.{words, end_at}
+use Prim.Native.Nat.{◌-◌, ◌<◌, ◌≤◌}
+use mathlib.Core.Path.{◌≡◌}
+use lib.ListN.{length}
+use Rattle.names.specs.Words.{words}
 use Rattle.grammar.specs.Grammar.{place_of}
 use Rattle.forest.specs.Told.{says}
-use Rattle.names.proofs.Bools.{and_left}
-use Rattle.grammar.proofs.Places.{later_all}
-use Rattle.forest.proofs.Telling.{Telling, tell_start, tell-next, tell-last, tell_done}
-use Rattle.forest.proofs.Visits.{said_good, said_bad}
-use borrow.Author.Rules.{rules}
-use native.Mathlib.Omega.{arith}
+use Rattle.forest.proofs.Telling.{Telling}
 use Rattle.forest.proofs.faults.mark_children.Given as goal
 
 abbrev pub invariant-loop-c : goal.invariant-loop-c

@@ -1,7 +1,6 @@
 -- `forest::faults::small` meets its contract. Assumes nothing.
 use native.Mathlib.Omega.{arith}
 use Rattle.forest.proofs.Telling.{zeros-fresh}
-use borrow.Author.Rules.{rules}
 use Rattle.forest.proofs.faults.small.Goals as goal
 
 pub lowest_fault-requires : goal.lowest_fault-requires

@@ -1,7 +1,6 @@
 -- `names::utf8::byte` meets its contract. Assumes nothing.
 use mathlib.Core.Path.{sym}
 use lib.ListN.{get_or-eq_default}
-use borrow.Author.Rules.{rules}
 use Rattle.names.proofs.utf8.byte.Goals as goal
 
 pub returns : goal.returns

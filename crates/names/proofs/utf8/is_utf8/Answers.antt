@@ -1,9 +1,5 @@
 -- `names::utf8::is_utf8` meets its contract. Assumes nothing.
-use Prim.Native.Nat.{ℕ, ◌-◌, ◌+◌, ◌*◌, ◌/◌, ◌<◌, ◌≤◌}
-use lib.ListN.{length}
-use Rattle.names.proofs.Reading.{Reading, read_start, read_next, read_bad, read_end}
-use borrow.Author.Rules.{rules}
-use native.Mathlib.Omega.{arith}
+use Rattle.names.proofs.Reading.{read_start, read_next, read_bad, read_end}
 use Rattle.names.proofs.utf8.is_utf8.Goals as goal
 
 pub loop-i-init : goal.loop-i-init

@@ -1,9 +1,7 @@
 -- `names::utf8::is_utf8` meets its contract. Assumes nothing.
-use Prim.Native.Nat.{ℕ, ◌-◌, ◌+◌, ◌*◌, ◌/◌, ◌<◌, ◌≤◌}
+use Prim.Native.Nat.{◌-◌}
 use lib.ListN.{length}
-use Rattle.names.proofs.Reading.{Reading, read_start, read_next, read_bad, read_end}
-use borrow.Author.Rules.{rules}
-use native.Mathlib.Omega.{arith}
+use Rattle.names.proofs.Reading.{Reading}
 use Rattle.names.proofs.utf8.is_utf8.Given as goal
 
 abbrev pub invariant-loop-i : goal.invariant-loop-i

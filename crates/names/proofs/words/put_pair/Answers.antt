@@ -1,6 +1,5 @@
 -- `names::words::put_pair` meets its contract. Assumes nothing.
 use Rattle.names.proofs.Storing.{two}
-use borrow.Author.Rules.{rules}
 use Rattle.names.proofs.words.put_pair.Goals as goal
 
 pub returns : goal.returns

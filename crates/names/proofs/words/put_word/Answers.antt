@@ -1,5 +1,4 @@
 -- `names::words::put_word` meets its contract. Assumes nothing.
-use borrow.Author.Rules.{rules}
 use native.Mathlib.Omega.{arith}
 use lib.ListN.{length-set}
 use Rattle.names.proofs.Storing.{four-le}

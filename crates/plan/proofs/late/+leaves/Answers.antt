@@ -5,9 +5,8 @@ use Rattle.names.specs.Words.{words, rows_in}
 use Rattle.steps.specs.Outcome.{names_of}
 use Rattle.acts.specs.View.{switches_of}
 use Rattle.plan.specs.Placing.{place_of}
-use Rattle.plan.proofs.Leaving.{Leaving, leaves-here, leaves-inside, leaves_none, here_as, no_function, not-down, children-say, children-range, children_fewer, later_fewer, leaving_next}
-use borrow.Author.Rules.{rules}
-use Prim.Native.Nat.{ℕ, ◌+◌, ◌-◌, ◌<◌}
+use Rattle.plan.proofs.Leaving.{leaves-here, leaves-inside, leaves_none, here_as, no_function, not-down, children-say, children-range, children_fewer, later_fewer, leaving_next}
+use Prim.Native.Nat.{◌+◌}
 use Rattle.plan.proofs.late.+leaves.Goals as goal
 
 pub loop-i-init : goal.loop-i-init

@@ -1,13 +1,10 @@
 -- `plan::late::leaves` meets its contract. Assumes nothing.
-use mathlib.Core.Path.{refl, ◌∙◌}
-use native.Mathlib.Omega.{arith}
 use Rattle.names.specs.Words.{words, rows_in}
 use Rattle.steps.specs.Outcome.{names_of}
 use Rattle.acts.specs.View.{switches_of}
 use Rattle.plan.specs.Placing.{place_of}
-use Rattle.plan.proofs.Leaving.{Leaving, leaves-here, leaves-inside, leaves_none, here_as, no_function, not-down, children-say, children-range, children_fewer, later_fewer, leaving_next}
-use borrow.Author.Rules.{rules}
-use Prim.Native.Nat.{ℕ, ◌+◌, ◌-◌, ◌<◌}
+use Rattle.plan.proofs.Leaving.{Leaving}
+use Prim.Native.Nat.{◌-◌}
 use Rattle.plan.proofs.late.+leaves.Given as goal
 
 -- each call is for fewer rows

@@ -12,7 +12,6 @@ use Rattle.steps.specs.Context.{spot}
 use Rattle.acts.specs.View.{switches_of}
 use Rattle.plan.proofs.Frames.{params_below, body_below}
 use Rattle.plan.proofs.Leaving.{leaves-from}
-use borrow.Author.Rules.{rules}
 use Rattle.plan.proofs.late.function_leaves.Goals as goal
 
 pub end_at-stop-requires : goal.end_at-stop-requires

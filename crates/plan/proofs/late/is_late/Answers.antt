@@ -6,7 +6,6 @@ use Rattle.below.specs.Below.{children}
 use Rattle.acts.specs.View.{switches_of}
 use Rattle.plan.specs.Placing.{place_of}
 use Rattle.plan.proofs.Leaving.{late_no, late_yes}
-use borrow.Author.Rules.{rules}
 use Rattle.std.proofs.lemmas.Bool.{not_from_false, not_from_true}
 use Rattle.plan.proofs.late.is_late.Goals as goal
 

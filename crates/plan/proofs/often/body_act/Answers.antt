@@ -4,7 +4,6 @@ use Rattle.steps.specs.Slots.{free}
 use Rattle.passes.specs.View.{op_of}
 use Rattle.plan.specs.Placing.{place_of}
 use Rattle.plan.proofs.Taking.{takes_along, body-row}
-use borrow.Author.Rules.{rules}
 use Rattle.plan.proofs.often.body_act.Goals as goal
 
 pub returns : goal.returns

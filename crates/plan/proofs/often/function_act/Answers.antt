@@ -5,7 +5,6 @@ use Rattle.steps.specs.Outcome.{names_of}
 use Rattle.acts.specs.View.{switches_of, context_of}
 use Rattle.plan.proofs.Frames.{placeable, handed}
 use Rattle.plan.proofs.Taking.{function-does, takes_at}
-use borrow.Author.Rules.{rules}
 use Rattle.plan.proofs.often.function_act.Goals as goal
 
 pub hand_on-requires : goal.hand_on-requires

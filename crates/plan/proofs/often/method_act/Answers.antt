@@ -4,7 +4,6 @@ use Rattle.steps.specs.Slots.{free, of_method}
 use Rattle.passes.specs.View.{op_of}
 use Rattle.plan.specs.Placing.{place_of}
 use Rattle.plan.proofs.Taking.{takes_along, method_computed, method_named}
-use borrow.Author.Rules.{rules}
 use Rattle.plan.proofs.often.method_act.Goals as goal
 
 pub returns-then-has_bit : goal.returns-then-has_bit

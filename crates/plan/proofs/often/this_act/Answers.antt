@@ -2,11 +2,10 @@
 use mathlib.Core.Path.{refl, ap, sym, ◌∙◌}
 use Prim.Native.Nat.{ℕ}
 use Rattle.steps.specs.Slots.{free}
-use Rattle.steps.specs.Acts.{Op, Op.name}
+use Rattle.steps.specs.Acts.{Op}
 use Rattle.passes.specs.View.{op_of}
 use Rattle.plan.specs.Placing.{place_of}
 use Rattle.plan.proofs.Taking.{takes_along, this_name, this-row}
-use borrow.Author.Rules.{rules}
 use Rattle.plan.proofs.often.this_act.Goals as goal
 
 pub returns-then-takes_this : goal.returns-then-takes_this

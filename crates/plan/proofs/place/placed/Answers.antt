@@ -1,7 +1,6 @@
 -- `plan::place::placed` meets its contract. Assumes nothing.
 use Rattle.acts.specs.View.{context_of}
 use Rattle.plan.proofs.Placing.{place-back}
-use borrow.Author.Rules.{rules}
 use Rattle.plan.proofs.place.placed.Goals as goal
 
 pub returns : goal.returns

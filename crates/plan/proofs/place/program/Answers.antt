@@ -5,7 +5,6 @@ use Rattle.steps.specs.Slots.{free}
 use Rattle.steps.specs.Acts.{Ctx}
 use Rattle.steps.specs.Context.{spot}
 use Rattle.plan.specs.Frames.{FramesBelow}
-use borrow.Author.Rules.{rules}
 use Rattle.plan.proofs.place.program.Goals as goal
 
 pub placed-requires : goal.placed-requires

@@ -1,6 +1,6 @@
 -- `plan::stays::stays` meets its contract. Assumes nothing.
 use mathlib.Core.Path.{◌≡◌, sym, subst}
-use mathlib.Core.Bool.{Bool, true, false, not, false≢true}
+use mathlib.Core.Bool.{Bool, true, not, false≢true}
 use Prim.Native.Nat.{ℕ}
 use borrow.Author.Tests.{ne_eqb}
 use Rattle.steps.specs.Context.{Spot}
@@ -8,7 +8,6 @@ use Rattle.acts.specs.View.{switches_of}
 use Rattle.acts.specs.Deciding.{spot_of}
 use Rattle.plan.specs.Staying.{Stays}
 use Rattle.plan.proofs.Staying.{this_stays, super_stays, ident_stays, outside-stays, property_stays, plain-stays}
-use borrow.Author.Rules.{rules}
 use Rattle.plan.proofs.stays.stays.Goals as goal
 
 pub returns-then-slot-eq-WRAPPED : goal.returns-then-slot-eq-WRAPPED

@@ -1,12 +1,9 @@
 -- `rows::made::first_made` meets its contract. Assumes nothing.
-use Prim.Native.Nat.{ℕ, ◌-◌, ◌+◌, ◌*◌, ◌/◌, ◌<◌, ◌≤◌}
-use mathlib.Core.Path.{◌≡◌, refl, sym, ap, subst, ◌∙◌}
-use Rattle.names.specs.Words.{words, kind_at, attr_at}
-use Rattle.grammar.specs.Grammar.{made_row}
+use mathlib.Core.Path.{◌∙◌}
+use Rattle.names.specs.Words.{words}
 use Rattle.rows.specs.Refusals.{first_made}
-use Rattle.names.proofs.Seeking.{Seek, seek-start, seek-next, seek_found, seek-none}
+use Rattle.names.proofs.Seeking.{seek-start, seek-next, seek_found, seek-none}
 use Rattle.forest.proofs.Visits.{made-same}
-use borrow.Author.Rules.{rules}
 use native.Mathlib.Omega.{arith}
 use Rattle.rows.proofs.made.first_made.Goals as goal
 

@@ -1,13 +1,8 @@
 -- `rows::made::first_made` meets its contract. Assumes nothing.
-use Prim.Native.Nat.{ℕ, ◌-◌, ◌+◌, ◌*◌, ◌/◌, ◌<◌, ◌≤◌}
-use mathlib.Core.Path.{◌≡◌, refl, sym, ap, subst, ◌∙◌}
+use Prim.Native.Nat.{◌-◌}
 use Rattle.names.specs.Words.{words, kind_at, attr_at}
 use Rattle.grammar.specs.Grammar.{made_row}
-use Rattle.rows.specs.Refusals.{first_made}
-use Rattle.names.proofs.Seeking.{Seek, seek-start, seek-next, seek_found, seek-none}
-use Rattle.forest.proofs.Visits.{made-same}
-use borrow.Author.Rules.{rules}
-use native.Mathlib.Omega.{arith}
+use Rattle.names.proofs.Seeking.{Seek}
 use Rattle.rows.proofs.made.first_made.Given as goal
 
 abbrev pub invariant-loop-i : goal.invariant-loop-i

@@ -1,7 +1,6 @@
 -- `acts::context::Context::in_arrow` meets its contract. Assumes nothing.
 use Rattle.acts.specs.View.{switches_of, context_of}
 use Rattle.acts.proofs.Entering.{arrow_inside}
-use borrow.Author.Rules.{rules}
 use Rattle.acts.proofs.context.Context.in_arrow.Goals as goal
 
 pub returns : goal.returns

@@ -1,7 +1,6 @@
 -- `acts::context::Context::in_body` meets its contract. Assumes nothing.
 use Rattle.acts.specs.View.{switches_of, context_of}
 use Rattle.acts.proofs.Entering.{method-body, other-body}
-use borrow.Author.Rules.{rules}
 use Rattle.acts.proofs.context.Context.in_body.Goals as goal
 
 pub returns-then-method : goal.returns-then-method

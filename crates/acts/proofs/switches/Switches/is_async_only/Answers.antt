@@ -1,7 +1,6 @@
 -- `acts::switches::Switches::is_async_only` meets its contract. Assumes nothing.
-use mathlib.Core.Path.{◌≡◌, ap, ◌∙◌}
+use mathlib.Core.Path.{ap, ◌∙◌}
 use Rattle.steps.specs.Mode.{is_async_only, async_only}
-use borrow.Author.Rules.{rules}
 use Rattle.acts.proofs.switches.Switches.is_async_only.Goals as goal
 
 pub returns : goal.returns

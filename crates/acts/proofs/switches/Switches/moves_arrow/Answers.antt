@@ -2,7 +2,6 @@
 use mathlib.Core.Path.{◌∙◌}
 use Rattle.acts.specs.View.{switches_of}
 use Rattle.acts.proofs.Entering.{arrow_as}
-use borrow.Author.Rules.{rules}
 use Rattle.acts.proofs.switches.Switches.moves_arrow.Goals as goal
 
 pub returns : goal.returns

@@ -2,7 +2,6 @@
 use mathlib.Core.Path.{◌∙◌}
 use Rattle.acts.specs.View.{switches_of}
 use Rattle.acts.proofs.Entering.{moved_as}
-use borrow.Author.Rules.{rules}
 use Rattle.acts.proofs.switches.Switches.moves_function.Goals as goal
 
 pub returns : goal.returns

@@ -1,8 +1,6 @@
 -- `bindings::frame::Frame::accessor` meets its contract. Assumes nothing.
-use Rattle.bindings.specs.Store.{binds}
-use Rattle.bindings.proofs.Finding.{Looking, accessor-small, looking_start, looking-low, found_low, looking-next, looking-less, looking-done}
+use Rattle.bindings.proofs.Finding.{accessor-small, looking_start, looking-low, found_low, looking-next, looking-less, looking-done}
 use native.Mathlib.Omega.{arith}
-use borrow.Author.Rules.{rules}
 use Rattle.bindings.proofs.frame.Frame.accessor.Goals as goal
 
 pub bucket-h-requires : goal.bucket-h-requires

@@ -1,8 +1,6 @@
 -- `bindings::frame::Frame::accessor` meets its contract. Assumes nothing.
 use Rattle.bindings.specs.Store.{binds}
-use Rattle.bindings.proofs.Finding.{Looking, accessor-small, looking_start, looking-low, found_low, looking-next, looking-less, looking-done}
-use native.Mathlib.Omega.{arith}
-use borrow.Author.Rules.{rules}
+use Rattle.bindings.proofs.Finding.{Looking}
 use Rattle.bindings.proofs.frame.Frame.accessor.Given as goal
 
 abbrev pub invariant-loop-b : goal.invariant-loop-b

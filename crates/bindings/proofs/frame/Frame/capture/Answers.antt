@@ -1,6 +1,6 @@
 -- `bindings::frame::Frame::capture` meets its contract. Assumes nothing.
-use Prim.Native.Nat.{ℕ, ◌+◌, ◌<◌, ◌≤◌}
-use mathlib.Core.Path.{◌≡◌, refl, ap, sym, ◌∙◌}
+use Prim.Native.Nat.{ℕ, ◌+◌}
+use mathlib.Core.Path.{refl, ap, sym, ◌∙◌}
 use mathlib.Core.List.{List}
 use lib.ListN.{length, set}
 use Rattle.bindings.proofs.Arrays.{pushed_long}
@@ -8,7 +8,6 @@ use Rattle.bindings.specs.Filed.{behind}
 use Rattle.bindings.proofs.Filing.{captured-behind}
 use Rattle.bindings.proofs.Captures.{capture_kept, capture_room, capture_new}
 use native.Mathlib.Omega.{arith}
-use borrow.Author.Rules.{rules}
 use Rattle.bindings.proofs.frame.Frame.capture.Goals as goal
 
 pub returns-then-entry-ne0 : goal.returns-then-entry-ne0

@@ -1,15 +1,12 @@
 -- `bindings::frame::Frame::close` meets its contract. Assumes nothing.
-use Prim.Native.Nat.{ℕ, ◌+◌, ◌-◌, ◌<◌, ◌≤◌}
-use mathlib.Core.Path.{◌≡◌, refl, ap, sym, subst, ◌∙◌}
-use mathlib.Core.Bool.{cond}
-use mathlib.Core.List.{List, ◌++◌}
-use lib.Dec.{eqb}
+use Prim.Native.Nat.{ℕ, ◌<◌}
+use mathlib.Core.Path.{refl, ap, sym, subst, ◌∙◌}
+use mathlib.Core.List.{◌++◌}
 use lib.ListN.{length, get_or}
 use Rattle.bindings.specs.Search.{params_for}
 use Rattle.bindings.specs.Store.{binds}
-use Rattle.bindings.proofs.Closing.{Closing, closing_start, closing-room, closing-next, closing-less, closing-done}
+use Rattle.bindings.proofs.Closing.{closing_start, closing-room, closing-next, closing-less, closing-done}
 use native.Mathlib.Omega.{arith}
-use Rattle.bindings.specs.Filed.{behind}
 use Rattle.bindings.proofs.frame.Frame.close.Goals as goal
 
 pub overflow_mul-cap : goal.overflow_mul-cap

@@ -1,14 +1,9 @@
 -- `bindings::frame::Frame::close` meets its contract. Assumes nothing.
-use Prim.Native.Nat.{ℕ, ◌+◌, ◌-◌, ◌<◌, ◌≤◌}
-use mathlib.Core.Path.{◌≡◌, refl, ap, sym, subst, ◌∙◌}
+use Prim.Native.Nat.{◌+◌, ◌-◌}
+use mathlib.Core.Path.{◌≡◌}
 use mathlib.Core.Bool.{cond}
-use mathlib.Core.List.{List, ◌++◌}
 use lib.Dec.{eqb}
-use lib.ListN.{length, get_or}
-use Rattle.bindings.specs.Search.{params_for}
-use Rattle.bindings.specs.Store.{binds}
-use Rattle.bindings.proofs.Closing.{Closing, closing_start, closing-room, closing-next, closing-less, closing-done}
-use native.Mathlib.Omega.{arith}
+use Rattle.bindings.proofs.Closing.{Closing}
 use Rattle.bindings.specs.Filed.{behind}
 use Rattle.bindings.proofs.frame.Frame.close.Given as goal
 

@@ -10,7 +10,6 @@ use Rattle.bindings.specs.Store.{binds}
 use Rattle.bindings.specs.Filed.{Filed, behind}
 use Rattle.bindings.proofs.Finding.{accessor-small, note-some, note_new, one_more}
 use Rattle.bindings.proofs.Filing.{super_kept, super_filed}
-use borrow.Author.Rules.{rules}
 use Rattle.bindings.proofs.frame.Frame.note_super.Goals as goal
 
 pub returns-then-accessor-ne0 : goal.returns-then-accessor-ne0

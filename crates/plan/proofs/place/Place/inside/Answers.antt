@@ -1,6 +1,5 @@
 -- `plan::place::Place::inside` meets its contract. Assumes nothing.
 use Rattle.plan.proofs.Placing.{inside_back}
-use borrow.Author.Rules.{rules}
 use Rattle.plan.proofs.place.Place.inside.Goals as goal
 
 pub returns : goal.returns

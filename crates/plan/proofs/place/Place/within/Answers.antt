@@ -1,6 +1,5 @@
 -- `plan::place::Place::within` meets its contract. Assumes nothing.
 use Rattle.plan.proofs.Placing.{within-back}
-use borrow.Author.Rules.{rules}
 use Rattle.plan.proofs.place.Place.within.Goals as goal
 
 pub returns : goal.returns
