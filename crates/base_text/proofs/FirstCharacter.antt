@@ -1,16 +1,16 @@
 -- The first character of a text: it stands within it, and its bytes are those of the code point that is read from them. Assumes nothing.
-use Prim.Native.Nat.{ℕ, zero, suc, ◌+◌, ◌*◌, ◌/◌, ◌%◌, ◌<◌, ◌≤◌}
-use mathlib.Core.Path.{◌≡◌, refl, sym, ap, ◌∙◌}
+use Prim.Native.Nat.{ℕ, ◌+◌, ◌*◌, ◌/◌, ◌%◌, ◌<◌, ◌≤◌}
+use mathlib.Core.Path.{◌≡◌, refl, sym, ◌∙◌}
 use mathlib.Core.Bool.{Bool, true, false, cond, ◌&&◌, ◌||◌}
-use mathlib.Core.List.{List, [], ◌∷◌, ◌++◌}
+use mathlib.Core.List.{List, [], ◌∷◌}
 use mathlib.Core.Logic.{◌⊎◌, inl, inr, ⊎_elim}
 use native.Mathlib.Omega.{arith}
 use native.Mathlib.Nat.{not-suc-le-zero, le_trans}
 use borrow.Author.Tests.{leb-true, lt-ltb, le-ltb, eq-eqb}
-use lib.Dec.{leb, eqb}
+use lib.Dec.{leb}
 use lib.ListN.{length, get_or, take}
 use lib.Seq.{take-append-le}
-use Rattle.names.specs.Utf8.{within, tail, seq_of, seq_at, two, three, four, utf8_from, utf8}
+use Rattle.names.specs.Utf8.{within, tail, seq_of, two, three, four, utf8_from, utf8}
 use Rattle.names.proofs.Bools.{and_left, and_right}
 use Rattle.letters.specs.Characters.{code_of, first_width, first_code, encode}
 

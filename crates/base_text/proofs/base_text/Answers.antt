@@ -1,5 +1,4 @@
 -- `base_text::base_text` meets its contract. Assumes nothing.
-use borrow.Author.Rules.{rules}
 use mathlib.Core.Path.{sym, ◌∙◌}
 use Rattle.base_text.proofs.Telling.{told-front, told-spelled}
 use Rattle.base_text.proofs.base_text.Goals as goal

@@ -1,5 +1,4 @@
 -- `base_text::sizes_ok` meets its contract. Assumes nothing.
-use borrow.Author.Rules.{rules}
 use Rattle.base_text.proofs.sizes_ok.Goals as goal
 
 pub returns : goal.returns

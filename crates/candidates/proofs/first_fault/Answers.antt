@@ -1,10 +1,6 @@
 -- `candidates::first_fault` meets its contract. Assumes nothing.
-use borrow.Author.Rules.{rules}
 use native.Mathlib.Omega.{arith}
-use lib.ListN.{length}
-use Prim.Native.Nat.{◌-◌, ◌+◌}
-use mathlib.Core.Path.{◌≡◌}
-use Rattle.candidates.proofs.Writing.{few-records, Testing, testing_start, testing-next, testing-fault, testing-done, told-fault, told-passed}
+use Rattle.candidates.proofs.Writing.{few-records, testing_start, testing-next, testing-fault, testing-done, told-fault, told-passed}
 use Rattle.candidates.proofs.first_fault.Goals as goal
 
 pub overflow_cast-count : goal.overflow_cast-count
@@ -18,8 +14,8 @@ text_of-spelled-requires c = c.requires
 
 pub returns-in-Refused : goal.returns-in-Refused
 returns-in-Refused c =
-    testing-fault (turn c.before).loop.inv.0 _ (omega (arith, (turn c.before).before.before.records-in.ensures))
-    (told-fault _ _ _ _ (start (turn c.before)).pre _ (omega (arith, (turn c.before).loop.inv.1)) _ _ _ _ c.text_of-spelled.ensures _ c.in-Refused.is)
+    testing-fault c.loop-b.invariant.0 _ (omega (arith, c.records_in-count.ensures))
+    (told-fault _ _ _ _ c.requires _ (omega (arith, c.loop-b.invariant.1)) _ _ _ _ c.text_of-spelled.ensures _ c.in-Refused.is)
 
 pub overflow_add-b : goal.overflow_add-b
 overflow_add-b c = let l = few-records _ _ _ c.requires in omega (arith, c.records_in-count.ensures)
@@ -29,9 +25,9 @@ loop-b-smaller c = omega (arith, c.records_in-count.ensures)
 
 pub loop-b-preserved : goal.loop-b-preserved
 loop-b-preserved c = (
-  testing-next (turn c.before).loop.inv.0 (omega (arith, (turn c.before).before.before.records-in.ensures))
-      (told-passed _ _ _ _ (start (turn c.before)).pre _ (omega (arith, (turn c.before).loop.inv.1)) _ _ _ _ c.text_of-spelled.ensures _ c.in_default.is),
-  search rules,
+  testing-next c.loop-b.invariant.0 (omega (arith, c.records_in-count.ensures))
+      (told-passed _ _ _ _ c.requires _ (omega (arith, c.loop-b.invariant.1)) _ _ _ _ c.text_of-spelled.ensures _ c.in_default.is),
+  omega (arith, c.text_of-spelled.auto),
 )
 
 pub returns : goal.returns

@@ -1,10 +1,8 @@
--- `candidates::first_fault` meets its contract. Assumes nothing.
-use borrow.Author.Rules.{rules}
-use native.Mathlib.Omega.{arith}
-use lib.ListN.{length}
-use Prim.Native.Nat.{◌-◌, ◌+◌}
+-- The loop of `candidates::first_fault`: what is tested of the bindings before number b. Assumes nothing.
 use mathlib.Core.Path.{◌≡◌}
-use Rattle.candidates.proofs.Writing.{few-records, Testing, testing_start, testing-next, testing-fault, testing-done, told-fault, told-passed}
+use Prim.Native.Nat.{◌-◌, ◌+◌}
+use lib.ListN.{length}
+use Rattle.candidates.proofs.Writing.{Testing}
 use Rattle.candidates.proofs.first_fault.Given as goal
 
 abbrev pub invariant-loop-b : goal.invariant-loop-b
@@ -12,9 +10,3 @@ invariant-loop-b l = Testing l.bindings l.names l.text l.b × (272 ≡ length l.
 
 abbrev pub decreases-loop-b : goal.decreases-loop-b
 decreases-loop-b l = l.count + 1 - l.b
-
-abbrev pub invariant-loop-b : goal.invariant-loop-b
-invariant-loop-b l = l.bindings.before.before.before.before.before.before
-
-abbrev pub invariant-loop-b : goal.invariant-loop-b
-invariant-loop-b l = l.bindings.before.before.before

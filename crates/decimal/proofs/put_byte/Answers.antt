@@ -1,6 +1,5 @@
 -- `decimal::put_byte` meets its contract. Assumes nothing.
 use Rattle.decimal.proofs.Writing.{none}
-use borrow.Author.Rules.{rules}
 use Rattle.decimal.proofs.put_byte.Goals as goal
 
 pub returns : goal.returns

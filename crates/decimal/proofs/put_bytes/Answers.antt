@@ -1,8 +1,5 @@
 -- `decimal::put_bytes` meets its contract. Assumes nothing.
-use Prim.Native.Nat.{◌+◌, ◌-◌, ◌≤◌}
-use mathlib.Core.Path.{◌≡◌, refl, ◌∙◌}
-use lib.ListN.{length, take}
-use Rattle.decimal.specs.Decimal.{Wrote}
+use mathlib.Core.Path.{refl}
 use Rattle.decimal.proofs.Writing.{nothing, one_more, all_of}
 use native.Mathlib.Omega.{arith}
 use Rattle.decimal.proofs.put_bytes.Goals as goal
@@ -12,9 +9,8 @@ loop-i-init c = (omega arith, omega arith, refl, nothing _ c.args.s.now)
 
 pub loop-i-preserved : goal.loop-i-preserved
 loop-i-preserved c =
-    let a = c.before in
     let w = c.put_byte-to.ensures in
-    (omega arith, omega (arith, w.next), c.put_byte-to.auto.0 ∙ a.loop.invariant.2, one_more _ _ _ _ _ _ _ _ c.loop-i-test.true a.loop.invariant.3 w)
+    (omega arith, omega (arith, w.next), omega arith, one_more _ _ _ _ _ _ _ _ c.loop-i-test.true c.loop-i.invariant.3 w)
 
 pub shape_of-out : goal.shape_of-out
 shape_of-out c = c.loop-i.invariant.2

@@ -1,10 +1,8 @@
 -- `decimal::put_bytes` meets its contract. Assumes nothing.
 use Prim.Native.Nat.{◌+◌, ◌-◌, ◌≤◌}
-use mathlib.Core.Path.{◌≡◌, refl, ◌∙◌}
+use mathlib.Core.Path.{◌≡◌}
 use lib.ListN.{length, take}
 use Rattle.decimal.specs.Decimal.{Wrote}
-use Rattle.decimal.proofs.Writing.{nothing, one_more, all_of}
-use native.Mathlib.Omega.{arith}
 use Rattle.decimal.proofs.put_bytes.Given as goal
 
 abbrev pub invariant-loop-i : goal.invariant-loop-i

@@ -1,8 +1,7 @@
 -- `numbers::enter_names` meets its contract. Assumes nothing.
-use native.Mathlib.Omega.{arith}
 use Prim.Native.Nat.{◌/◌, ◌-◌}
 use lib.ListN.{length}
-use Rattle.numbers.proofs.Making.{Entering, entering_start, entering_next, entering_done}
+use Rattle.numbers.proofs.Making.{Entering}
 use Rattle.numbers.proofs.enter_names.Given as goal
 
 abbrev pub invariant-loop-k : goal.invariant-loop-k

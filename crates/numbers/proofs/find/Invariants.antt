@@ -1,10 +1,7 @@
 -- `numbers::find` meets its contract. Assumes nothing.
-use borrow.Author.Rules.{rules}
-use native.Mathlib.Omega.{arith}
 use mathlib.Core.Path.{◌≡◌}
 use Prim.Native.Nat.{◌%◌}
 use lib.ListN.{length}
-use Rattle.numbers.proofs.Looking.{along_start, along-low, along-next, along-less, along-done}
 use Rattle.spelling.specs.Hash.{hash_of}
 use Rattle.buckets.proofs.Finding.{Finding}
 use Rattle.numbers.specs.Entries.{entries}

@@ -1,12 +1,5 @@
 -- `numbers::free_number` meets its contract. Assumes nothing.
 use native.Mathlib.Omega.{arith}
-use mathlib.Core.Path.{◌≡◌}
-use Prim.Native.Nat.{◌+◌, ◌-◌}
-use Rattle.buckets.specs.Search.{first_where}
-use Rattle.base_text.specs.Refusals.{base_text}
-use Rattle.candidates.specs.Candidates.{candidate}
-use Rattle.numbers.specs.Entries.{entries}
-use Rattle.numbers.specs.Tables.{is_text, Seeking}
 use Rattle.numbers.proofs.Looking.{few-entries, tried_next, tried_done, tried_high}
 use Rattle.numbers.proofs.Entering.{entries-long}
 use Rattle.numbers.proofs.free_number.Goals as goal
@@ -23,26 +16,22 @@ loop-e-init c = (c.requires.seeking, c.find_candidate-e.ensures.0)
 
 pub overflow_add-n : goal.overflow_add-n
 overflow_add-n c =
-    let P = (c.requires.sound, (c.requires.stored, (c.requires.b_nonzero, c.requires.seeking))) in
     let a = c.args in
-    let l = few-entries P.0 _ P.1.0.few in
+    let l = few-entries c.requires.sound _ c.requires.stored.few in
     let k = c.loop-e.invariant.0.high in
     omega (arith, entries-long a.bindings.now a.names.now a.text.now a.numbers.now a.count)
 
 pub find_candidate-e-requires-in-loop-e : goal.find_candidate-e-requires-in-loop-e
-find_candidate-e-requires-in-loop-e c =
-    let all = let P = (c.requires.sound, (c.requires.stored, (c.requires.b_nonzero, c.requires.seeking))) in
-    (P.0, (P.1.0, P.1.1.0)) in record {
-      sound = all.0;
-      stored = all.1.0;
-      b_nonzero = all.1.1;
-    }
+find_candidate-e-requires-in-loop-e c = record {
+  sound = c.requires.sound;
+  stored = c.requires.stored;
+  b_nonzero = c.requires.b_nonzero;
+}
 
 pub loop-e-smaller : goal.loop-e-smaller
 loop-e-smaller c =
     let a = c.args in
-    let loop = c.loop-e in
-    let k = tried_high loop.invariant.0 loop.invariant.1 c.loop-e-test.true in
+    let k = tried_high c.loop-e.invariant.0 c.loop-e.invariant.1 c.loop-e-test.true in
     omega (arith, entries-long a.bindings.now a.names.now a.text.now a.numbers.now a.count)
 
 pub loop-e-preserved : goal.loop-e-preserved

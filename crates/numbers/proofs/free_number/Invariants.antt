@@ -1,5 +1,4 @@
 -- `numbers::free_number` meets its contract. Assumes nothing.
-use native.Mathlib.Omega.{arith}
 use mathlib.Core.Path.{◌≡◌}
 use Prim.Native.Nat.{◌+◌, ◌-◌}
 use Rattle.buckets.specs.Search.{first_where}
@@ -7,8 +6,6 @@ use Rattle.base_text.specs.Refusals.{base_text}
 use Rattle.candidates.specs.Candidates.{candidate}
 use Rattle.numbers.specs.Entries.{entries}
 use Rattle.numbers.specs.Tables.{is_text, Seeking}
-use Rattle.numbers.proofs.Looking.{few-entries, tried_next, tried_done, tried_high}
-use Rattle.numbers.proofs.Entering.{entries-long}
 use Rattle.numbers.proofs.free_number.Given as goal
 
 abbrev pub invariant-loop-e : goal.invariant-loop-e

@@ -1,7 +1,6 @@
 -- `thawcopper::convert_as` meets its contract. Assumes nothing.
 use Rattle.answer.proofs.Owning.{renumbered}
 use Rattle.answer.proofs.Small.{answer-small}
-use borrow.Author.Rules.{rules}
 use Rattle.thawcopper.proofs.convert_as.Goals as goal
 
 pub answer_of-requires : goal.answer_of-requires

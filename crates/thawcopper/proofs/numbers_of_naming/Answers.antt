@@ -1,7 +1,6 @@
 -- `thawcopper::numbers_of_naming` meets its contract. Assumes nothing.
 use mathlib.Core.Path.{ap, sym, ◌∙◌}
 use Rattle.made_names.specs.Naming.{naming_number, naming_place, pair_count, byte_count}
-use borrow.Author.Rules.{rules}
 use Rattle.thawcopper.proofs.numbers_of_naming.Goals as goal
 
 pub returns-in-Made : goal.returns-in-Made

@@ -1,8 +1,7 @@
 -- `thawcopper::thawcopper_base_text` meets its contract. Assumes nothing.
 use mathlib.Core.Path.{ap, ◌∙◌}
-use mathlib.Core.List.{List, ◌++◌}
+use mathlib.Core.List.{◌++◌}
 use lib.ListN.{take, drop}
-use borrow.Author.Rules.{rules}
 use Rattle.base_text.specs.Refusals.{answer_number, answer_place, count_of, base_text}
 use Rattle.base_text.specs.declared.Spelling.{Spelling}
 use Rattle.thawcopper.proofs.thawcopper_base_text.Goals as goal

@@ -8,7 +8,6 @@ use Rattle.names.specs.Laid.{joined, pairs_from}
 use Rattle.candidates.specs.MadeNames.{made_names}
 use Rattle.made_names.specs.Naming.{naming_number, naming_place, pair_count, byte_count}
 use Rattle.made_names.specs.declared.Naming.{Naming}
-use borrow.Author.Rules.{rules}
 use Rattle.thawcopper.proofs.thawcopper_make_names.Goals as goal
 
 pub returns : goal.returns
@@ -22,6 +21,6 @@ returns c =
       placed = said.1 ∙ ap naming_place told.right;
       paired = said.2 ∙ ap pair_count told.right;
       counted = said.3 ∙ ap byte_count told.right;
-      pairs_written = told.pairs_left ∙ ap (λ (s : Naming). take (8 * pair_count s) (bytes_of (pairs_from 0 made)) ++ drop (8 * pair_count s) a.out-pairs.now) told.right;
-      text_written = told.text_left ∙ ap (λ (s : Naming). take (byte_count s) (joined made) ++ drop (byte_count s) a.out-text.now) told.right;
+      pairs_written = told.pairs_left ∙ ap (λ (s : Naming). take (8 * pair_count s) (bytes_of (pairs_from 0 made)) ++ drop (8 * pair_count s) a.out_pairs.now) told.right;
+      text_written = told.text_left ∙ ap (λ (s : Naming). take (byte_count s) (joined made) ++ drop (byte_count s) a.out_text.now) told.right;
     }

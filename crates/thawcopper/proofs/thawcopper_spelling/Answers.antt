@@ -1,7 +1,6 @@
 -- `thawcopper::thawcopper_spelling` meets its contract. Assumes nothing.
 use mathlib.Core.Path.{ap, ◌∙◌}
 use Rattle.lookup.specs.Parts.{number_of}
-use borrow.Author.Rules.{rules}
 use Rattle.thawcopper.proofs.thawcopper_spelling.Goals as goal
 
 pub returns : goal.returns

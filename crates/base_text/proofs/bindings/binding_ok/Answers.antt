@@ -1,5 +1,4 @@
 -- `base_text::bindings::binding_ok` meets its contract. Assumes nothing.
-use borrow.Author.Rules.{rules}
 use borrow.Author.Tests.{eq-eqb, ne_eqb, lt-ltb, le-ltb}
 use Rattle.base_text.specs.Bindings.{binding_ok}
 use Rattle.base_text.proofs.bindings.binding_ok.Goals as goal

@@ -1,5 +1,4 @@
 -- `base_text::bindings::property_of` meets its contract. Assumes nothing.
-use borrow.Author.Rules.{rules}
 use borrow.Author.Tests.{eq-eqb, ne_eqb}
 use Rattle.base_text.proofs.bindings.property_of.Goals as goal
 

@@ -1,5 +1,4 @@
 -- `base_text::head::code` meets its contract. Assumes nothing.
-use borrow.Author.Rules.{rules}
 use borrow.Author.Tests.{eq-eqb, ne_eqb}
 use Rattle.letters.specs.Characters.{code_of}
 use Rattle.base_text.proofs.head.code.Goals as goal

@@ -1,5 +1,4 @@
 -- `base_text::head::head_of` meets its contract. Assumes nothing.
-use borrow.Author.Rules.{rules}
 use Prim.Native.Nat.{ℕ, ◌≤◌}
 use mathlib.Core.Path.{◌≡◌, subst, sym}
 use lib.ListN.{length}
@@ -13,4 +12,8 @@ returns c =
     let a = c.args in
     let w = c.seq_at-width in
     let e : c.code.result ≡ first_code a.s.now = cc in
-    record { wide = w.ensures.0; within = subst (λ (n : ℕ). n ≤ length a.s.now) (sym w.ensures.0) (width_fits a.s.now c.requires); capitals = subst (λ (n : ℕ). Capitals n c.capital_of-capital.result.count c.capital_of-capital.result.first c.capital_of-capital.result.second) e c.capital_of-capital.ensures }
+    record {
+      wide = w.ensures.0;
+      within = subst (λ (n : ℕ). n ≤ length a.s.now) (sym w.ensures.0) (width_fits a.s.now c.requires);
+      capitals = subst (λ (n : ℕ). Capitals n c.capital_of-capital.result.count c.capital_of-capital.result.first c.capital_of-capital.result.second) e c.capital_of-capital.ensures;
+    }

@@ -1,5 +1,4 @@
 -- `base_text::spell::spell` meets its contract. Assumes nothing.
-use borrow.Author.Rules.{rules}
 use mathlib.Core.Path.{◌≡◌, subst}
 use mathlib.Core.Bool.{true}
 use Rattle.base_text.specs.declared.Property.{Property}

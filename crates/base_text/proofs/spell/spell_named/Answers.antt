@@ -43,4 +43,4 @@ returns c =
     let v = c.cell-n in
     let z : a.k ≡ 0 → ⊥ = λ q. omega (arith, c.requires.1) in
     let e : take (u.result + v.result - u.result) (drop u.result a.text.now) ≡ bytes_of a.names.now a.text.now a.k = cut u.result v.result a.text.now ∙ rw (ne_eqb a.k 0 z, u.ensures.0, v.ensures.0) in
-    subst (λ (s : List ℕ). Told c.spell_property.result (named_answer a.number (base_part a.from a.count) s (length a.out.now)) (with_property (base_part a.from a.count) s) a.out.now c.spell_property.new.1.1.1.1.0) e c.spell_property.ensures
+    subst (λ (s : List ℕ). Told c.spell_property.result (named_answer a.number (base_part a.from a.count) s (length a.out.now)) (with_property (base_part a.from a.count) s) a.out.now c.spell_property.new.out) e c.spell_property.ensures

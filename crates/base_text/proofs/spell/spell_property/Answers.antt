@@ -1,5 +1,4 @@
 -- `base_text::spell::spell_property` meets its contract. Assumes nothing.
-use borrow.Author.Rules.{rules}
 use mathlib.Core.Path.{◌≡◌}
 use lib.ListN.{length}
 use Rattle.base_text.specs.Bases.{base_part}
@@ -22,4 +21,4 @@ pub returns : goal.returns
 returns c =
     let a = c.args in
     let q : length (base_part a.from a.count) ≡ a.count = part_length a.from a.count c.requires.0 in
-    written _ (base_part a.from a.count) _ _ _ _ _ _ c.head_of-head.ensures a.count _ q c.if-capitals-eq0.false c.if-out-all.false c.put_all_lem.ensures
+    written _ (base_part a.from a.count) _ _ _ _ _ _ c.head_of-head.ensures a.count _ q c.if-capitals-eq0.false c.if-out-all.false c.put_all.ensures
