@@ -1,5 +1,5 @@
 -- UTF-8 to and from code points: the Unicode Standard, Table 3-6, "UTF-8 Bit Distribution". Assumes nothing.
-use Rattle.std.specs.Prelude.{ℕ, ◌+◌, ◌*◌, ◌/◌, ◌%◌, Bool, true, false, cond, List, [], ◌∷◌, ◌++◌, get_or, ltb, eqb}
+use Rattle.std.specs.Prelude.{ℕ, ◌+◌, ◌*◌, ◌/◌, ◌%◌, cond, List, [], ◌∷◌, ◌++◌, get_or, ltb, eqb}
 use Rattle.names.specs.Utf8.{seq_at}
 
 -- the code point of a well-formed sequence of that width

@@ -1,6 +1,5 @@
 -- `letters::capital_of` meets its contract. Assumes nothing.
 use mathlib.Core.Path.{refl}
-use borrow.Author.Rules.{rules}
 use native.Mathlib.Omega.{arith}
 use Rattle.letters.proofs.Casing.{ascii, latin, cyrillic, between, beyond}
 use Rattle.letters.proofs.capital_of.Goals as goal

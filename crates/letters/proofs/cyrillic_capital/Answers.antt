@@ -1,7 +1,6 @@
 -- `letters::cyrillic_capital` meets its contract. Assumes nothing.
 use Prim.Native.Nat.{◌<◌, ◌≤◌}
 use native.Mathlib.Omega.{arith}
-use borrow.Author.Rules.{rules}
 use borrow.Author.Tests.{le-leb, lt-leb}
 use Rattle.letters.specs.Letters.{cyrillic_capital}
 use Rattle.letters.proofs.cyrillic_capital.Goals as goal
