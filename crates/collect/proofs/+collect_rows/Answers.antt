@@ -2,21 +2,18 @@
 use mathlib.Core.Path.{refl, ap, sym, subst}
 use native.Mathlib.Omega.{arith}
 use Rattle.names.specs.Words.{words, rows_in, kind_at, attr_at, name_at}
-use Rattle.forest.specs.Forest.{rows_at}
 use Rattle.forest.specs.Nested.{Range}
 use Rattle.forest.proofs.Walking.{inner}
 use Rattle.steps.specs.Outcome.{names_of}
-use Rattle.steps.specs.Context.{Spot, collect_c}
+use Rattle.steps.specs.Context.{Spot}
 use Rattle.below.specs.Below.{children}
-use Rattle.bindings.specs.Store.{binds}
 use Rattle.acts.specs.View.{switches_of}
 use Rattle.plan.specs.Placing.{place_of}
 use Rattle.plan.proofs.Acted.{acted_late}
 use Rattle.plan.proofs.Leaving.{children_fewer, later_fewer}
 use Rattle.collect.proofs.Meeting.{filed_as}
-use Rattle.collect.proofs.Siblings.{Walking, walked, walked_filed, passed-filed, row-filed, low_row, here-room, walks_on, passed-leaf, passed-collects, passed-kept, row-meets-it, children-collect, row-finishes, row_kept}
-use borrow.Author.Rules.{rules}
-use Prim.Native.Nat.{ℕ, ◌+◌, ◌*◌, ◌-◌, ◌<◌}
+use Rattle.collect.proofs.Siblings.{walked, walked_filed, passed-filed, row-filed, low_row, here-room, walks_on, passed-leaf, passed-collects, passed-kept, row-meets-it, children-collect, row-finishes, row_kept}
+use Prim.Native.Nat.{◌+◌, ◌-◌}
 use Rattle.collect.proofs.+collect_rows.Goals as goal
 
 pub collect-loop-i-init : goal.collect-loop-i-init
@@ -26,14 +23,38 @@ pub collect-end_at-stop-requires : goal.collect-end_at-stop-requires
 collect-end_at-stop-requires t c = let b = c.requires.ranged.bytes in let r = c.loop-i.invariant.range.within in let l = c.loop-i-test.true in omega arith
 
 pub collect-collect_row-kept-requires : goal.collect-collect_row-kept-requires
-collect-collect_row-kept-requires t c =
-    (let m = c.decreases in let f = children_fewer (words c.args.rows.now) (rows_in c.args.rows.now) c.requires.ranged.nested c.loop-i.i c.args.end c.loop-i.invariant.range c.loop-i-test.true c.end_at-stop.result c.end_at-stop.ensures.0 c.args.from (c.args.end - c.args.from) c.loop-i.invariant.start refl in omega arith, (record { at = record { bytes = c.requires.ranged.bytes; few = c.requires.ranged.few; nested = c.requires.ranged.nested; row = low_row c.requires.ranged.nested c.loop-i.invariant c.loop-i-test.true c.requires.collects }; stops = c.end_at-stop.ensures.0; store = c.loop-i.invariant.store; cap_low = c.requires.collects.cap_low; rows_low = c.requires.collects.rows_low; low = c.loop-i.invariant.low; room = here-room c.requires.ranged.nested c.loop-i.invariant c.loop-i-test.true c.requires.collects }, (c.requires.given_names, c.loop-i.invariant.filed)))
+collect-collect_row-kept-requires t c = (
+  let m = c.decreases in let f = children_fewer (words c.args.rows.now)
+      (rows_in c.args.rows.now) c.requires.ranged.nested c.loop-i.i c.args.end c.loop-i.invariant.range c.loop-i-test.true c.end_at-stop.result
+      c.end_at-stop.ensures.0 c.args.from (c.args.end - c.args.from) c.loop-i.invariant.start refl in omega arith,
+  (
+    record {
+      at = record {
+        bytes = c.requires.ranged.bytes;
+        few = c.requires.ranged.few;
+        nested = c.requires.ranged.nested;
+        row = low_row c.requires.ranged.nested c.loop-i.invariant c.loop-i-test.true c.requires.collects;
+      };
+      stops = c.end_at-stop.ensures.0;
+      store = c.loop-i.invariant.store;
+      cap_low = c.requires.collects.cap_low;
+      rows_low = c.requires.collects.rows_low;
+      low = c.loop-i.invariant.low;
+      room = here-room c.requires.ranged.nested c.loop-i.invariant c.loop-i-test.true c.requires.collects;
+    },
+    (c.requires.given_names, c.loop-i.invariant.filed),
+  ),
+)
 
 pub collect-loop-i-smaller : goal.collect-loop-i-smaller
-collect-loop-i-smaller t c = later_fewer (words c.args.rows.now) (rows_in c.args.rows.now) c.requires.ranged.nested c.loop-i.i c.args.end c.loop-i.invariant.range c.loop-i-test.true c.end_at-stop.result c.end_at-stop.ensures.0
+collect-loop-i-smaller t c =
+    later_fewer (words c.args.rows.now) (rows_in c.args.rows.now) c.requires.ranged.nested c.loop-i.i c.args.end c.loop-i.invariant.range c.loop-i-test.true
+    c.end_at-stop.result c.end_at-stop.ensures.0
 
 pub collect-loop-i-preserved : goal.collect-loop-i-preserved
-collect-loop-i-preserved t c = walks_on c.requires.ranged.nested c.loop-i.invariant c.loop-i-test.true c.requires.collects c.end_at-stop.ensures.0 c.collect_row-kept.ensures.kept c.collect_row-kept.ensures.filed_2
+collect-loop-i-preserved t c =
+    walks_on c.requires.ranged.nested c.loop-i.invariant c.loop-i-test.true c.requires.collects c.end_at-stop.ensures.0 c.collect_row-kept.ensures.kept
+    c.collect_row-kept.ensures.filed_2
 
 pub collect-returns : goal.collect-returns
 collect-returns t c = record {
@@ -51,20 +72,50 @@ pub collect_row-attr_at-requires : goal.collect_row-attr_at-requires
 collect_row-attr_at-requires t c = let r = c.requires.row_collects.at.row in let b = c.requires.row_collects.at.bytes in omega arith
 
 pub collect_row-returns-then-stop-from : goal.collect_row-returns-then-stop-from
-collect_row-returns-then-stop-from t c = record {
-  kept = passed-leaf (names_of c.args.names.now c.args.text.now) (switches_of c.args.switches) c.requires.row_collects c.kind_at-kind.ensures.0 c.attr_at.ensures.0 (c.stays.ensures c.if-stays.true) refl c.if-stop-from.true;
-  filed_2 = filed_as c.requires.filed (passed-leaf (names_of c.args.names.now c.args.text.now) (switches_of c.args.switches) c.requires.row_collects c.kind_at-kind.ensures.0 c.attr_at.ensures.0 (c.stays.ensures c.if-stays.true) refl c.if-stop-from.true).list;
-}
+collect_row-returns-then-stop-from t c =
+    record {
+      kept = passed-leaf (names_of c.args.names.now c.args.text.now)
+          (switches_of c.args.switches) c.requires.row_collects c.kind_at-kind.ensures.0 c.attr_at.ensures.0
+          (c.stays.ensures c.if-stays.true) refl c.if-stop-from.true;
+      filed_2 = filed_as c.requires.filed (passed-leaf (names_of c.args.names.now c.args.text.now)
+          (switches_of c.args.switches) c.requires.row_collects c.kind_at-kind.ensures.0 c.attr_at.ensures.0
+          (c.stays.ensures c.if-stays.true) refl c.if-stop-from.true).list;
+    }
 
 pub collect_row-collect-requires : goal.collect_row-collect-requires
-collect_row-collect-requires t c =
-    (let m = c.decreases in omega arith, (record { bytes = c.requires.row_collects.at.bytes; few = c.requires.row_collects.at.few; nested = c.requires.row_collects.at.nested; range = subst (Range (words c.args.rows.now) (rows_in c.args.rows.now) (c.args.i + 1)) (sym c.requires.row_collects.stops) (inner (words c.args.rows.now) (rows_in c.args.rows.now) c.requires.row_collects.at.nested c.args.i c.requires.row_collects.at.row) }, (c.requires.given_names, (passed-collects (names_of c.args.names.now c.args.text.now) (switches_of c.args.switches) c.requires.row_collects c.kind_at-kind.ensures.0 c.attr_at.ensures.0 (c.stays.ensures c.if-stays.true) c.inside-along.ensures, c.requires.filed))))
+collect_row-collect-requires t c = (
+  let m = c.decreases in omega arith,
+  (
+    record {
+      bytes = c.requires.row_collects.at.bytes;
+      few = c.requires.row_collects.at.few;
+      nested = c.requires.row_collects.at.nested;
+      range = subst (Range (words c.args.rows.now) (rows_in c.args.rows.now) (c.args.i + 1))
+          (sym c.requires.row_collects.stops) (inner (words c.args.rows.now)
+          (rows_in c.args.rows.now) c.requires.row_collects.at.nested c.args.i c.requires.row_collects.at.row);
+    },
+    (
+      c.requires.given_names,
+      (
+        passed-collects
+            (names_of c.args.names.now c.args.text.now) (switches_of c.args.switches) c.requires.row_collects c.kind_at-kind.ensures.0 c.attr_at.ensures.0
+            (c.stays.ensures c.if-stays.true) c.inside-along.ensures,
+        c.requires.filed,
+      ),
+    ),
+  ),
+)
 
 pub collect_row-returns-then-stays : goal.collect_row-returns-then-stays
-collect_row-returns-then-stays t c = record {
-  kept = passed-kept (names_of c.args.names.now c.args.text.now) (switches_of c.args.switches) c.requires.row_collects c.kind_at-kind.ensures.0 c.attr_at.ensures.0 (c.stays.ensures c.if-stays.true) c.inside-along.ensures c.collect.ensures.kept;
-  filed_2 = passed-filed (names_of c.args.names.now c.args.text.now) (switches_of c.args.switches) c.requires.row_collects c.kind_at-kind.ensures.0 c.attr_at.ensures.0 (c.stays.ensures c.if-stays.true) c.inside-along.ensures c.collect.ensures.filed_2;
-}
+collect_row-returns-then-stays t c =
+    record {
+      kept = passed-kept (names_of c.args.names.now c.args.text.now)
+          (switches_of c.args.switches) c.requires.row_collects c.kind_at-kind.ensures.0 c.attr_at.ensures.0
+          (c.stays.ensures c.if-stays.true) c.inside-along.ensures c.collect.ensures.kept;
+      filed_2 = passed-filed (names_of c.args.names.now c.args.text.now)
+          (switches_of c.args.switches) c.requires.row_collects c.kind_at-kind.ensures.0 c.attr_at.ensures.0
+          (c.stays.ensures c.if-stays.true) c.inside-along.ensures c.collect.ensures.filed_2;
+    }
 
 pub collect_row-is_late-late-requires : goal.collect_row-is_late-late-requires
 collect_row-is_late-late-requires t c = record {
@@ -79,22 +130,65 @@ collect_row-act_at-act-requires t c = record {
 }
 
 pub collect_row-meet-met-requires : goal.collect_row-meet-met-requires
-collect_row-meet-met-requires t c = record {
-  meets = row-meets-it (names_of c.args.names.now c.args.text.now) (switches_of c.args.switches) c.requires.row_collects (acted_late (names_of c.args.names.now c.args.text.now) (switches_of c.args.switches) (place_of c.args.q) c.args.i (kind_at (words c.args.rows.now) c.args.i) (attr_at (words c.args.rows.now) c.args.i) (name_at (words c.args.rows.now) c.args.i) (children (words c.args.rows.now) c.args.i) c.is_late-late.ensures c.act_at-act.ensures.takes) c.act_at-act.ensures.small;
-  given_names = c.requires.given_names;
-  filed = c.requires.filed;
-}
+collect_row-meet-met-requires t c =
+    let d = acted_late (names_of c.args.names.now c.args.text.now) (switches_of c.args.switches) (place_of c.args.q) c.args.i (kind_at
+    (words c.args.rows.now) c.args.i) (attr_at (words c.args.rows.now) c.args.i) (name_at (words c.args.rows.now) c.args.i) (children
+    (words c.args.rows.now) c.args.i) c.is_late-late.ensures c.act_at-act.ensures.takes in
+    record {
+      meets = row-meets-it (names_of c.args.names.now c.args.text.now) (switches_of c.args.switches) c.requires.row_collects d c.act_at-act.ensures.small;
+      given_names = c.requires.given_names;
+      filed = c.requires.filed;
+    }
 
 pub collect_row-collect-inner-requires : goal.collect_row-collect-inner-requires
 collect_row-collect-inner-requires t c =
-    (let m = c.decreases in omega arith, (record { bytes = c.requires.row_collects.at.bytes; few = c.requires.row_collects.at.few; nested = c.requires.row_collects.at.nested; range = subst (Range (words c.args.rows.now) (rows_in c.args.rows.now) (c.args.i + 1)) (sym c.requires.row_collects.stops) (inner (words c.args.rows.now) (rows_in c.args.rows.now) c.requires.row_collects.at.nested c.args.i c.requires.row_collects.at.row) }, (c.requires.given_names, (children-collect (names_of c.args.names.now c.args.text.now) (switches_of c.args.switches) c.requires.row_collects (acted_late (names_of c.args.names.now c.args.text.now) (switches_of c.args.switches) (place_of c.args.q) c.args.i (kind_at (words c.args.rows.now) c.args.i) (attr_at (words c.args.rows.now) c.args.i) (name_at (words c.args.rows.now) c.args.i) (children (words c.args.rows.now) c.args.i) c.is_late-late.ensures c.act_at-act.ensures.takes) c.act_at-act.ensures.small c.meet-met.ensures.kept c.requires.row_collects.stops, filed_as c.meet-met.ensures.filed_2 (sym c.meet-met.ensures.kept.list)))))
+    let d = acted_late (names_of c.args.names.now c.args.text.now) (switches_of c.args.switches) (place_of c.args.q) c.args.i (kind_at
+    (words c.args.rows.now) c.args.i) (attr_at (words c.args.rows.now) c.args.i) (name_at (words c.args.rows.now) c.args.i) (children
+    (words c.args.rows.now) c.args.i) c.is_late-late.ensures c.act_at-act.ensures.takes in (
+      let m = c.decreases in omega arith,
+      (
+        record {
+          bytes = c.requires.row_collects.at.bytes;
+          few = c.requires.row_collects.at.few;
+          nested = c.requires.row_collects.at.nested;
+          range = subst (Range (words c.args.rows.now) (rows_in c.args.rows.now) (c.args.i + 1))
+              (sym c.requires.row_collects.stops) (inner (words c.args.rows.now)
+              (rows_in c.args.rows.now) c.requires.row_collects.at.nested c.args.i c.requires.row_collects.at.row);
+        },
+        (
+          c.requires.given_names,
+          (
+            children-collect
+                (names_of c.args.names.now c.args.text.now)
+                (switches_of c.args.switches) c.requires.row_collects d c.act_at-act.ensures.small c.meet-met.ensures.kept c.requires.row_collects.stops,
+            filed_as c.meet-met.ensures.filed_2 (sym c.meet-met.ensures.kept.list),
+          ),
+        ),
+      ),
+    )
 
 pub collect_row-finish-requires : goal.collect_row-finish-requires
 collect_row-finish-requires t c =
-    row-finishes (names_of c.args.names.now c.args.text.now) (switches_of c.args.switches) c.requires.row_collects (acted_late (names_of c.args.names.now c.args.text.now) (switches_of c.args.switches) (place_of c.args.q) c.args.i (kind_at (words c.args.rows.now) c.args.i) (attr_at (words c.args.rows.now) c.args.i) (name_at (words c.args.rows.now) c.args.i) (children (words c.args.rows.now) c.args.i) c.is_late-late.ensures c.act_at-act.ensures.takes) c.act_at-act.ensures.small c.meet-met.ensures.kept c.requires.row_collects.stops c.collect-inner.ensures.kept c.kind_at-kind.ensures.0 c.closes-closing.ensures c.slot.ensures (ap (λ (s : Spot). s.ctx) c.spot-spot.ensures.result_value) c.this_at-frame.ensures.value
+    let d = acted_late (names_of c.args.names.now c.args.text.now) (switches_of c.args.switches) (place_of c.args.q) c.args.i (kind_at
+    (words c.args.rows.now) c.args.i) (attr_at (words c.args.rows.now) c.args.i) (name_at (words c.args.rows.now) c.args.i) (children
+    (words c.args.rows.now) c.args.i) c.is_late-late.ensures c.act_at-act.ensures.takes in
+    row-finishes (names_of c.args.names.now c.args.text.now)
+    (switches_of c.args.switches) c.requires.row_collects d c.act_at-act.ensures.small c.meet-met.ensures.kept c.requires.row_collects.stops
+    c.collect-inner.ensures.kept c.kind_at-kind.ensures.0 c.closes-closing.ensures c.slot.ensures (ap (λ
+    (s : Spot). s.ctx) c.spot-spot.ensures.result_value) c.this_at-frame.ensures.value
 
 pub collect_row-returns : goal.collect_row-returns
-collect_row-returns t c = record {
-  kept = row_kept (names_of c.args.names.now c.args.text.now) (switches_of c.args.switches) c.requires.row_collects (acted_late (names_of c.args.names.now c.args.text.now) (switches_of c.args.switches) (place_of c.args.q) c.args.i (kind_at (words c.args.rows.now) c.args.i) (attr_at (words c.args.rows.now) c.args.i) (name_at (words c.args.rows.now) c.args.i) (children (words c.args.rows.now) c.args.i) c.is_late-late.ensures c.act_at-act.ensures.takes) c.act_at-act.ensures.small c.meet-met.ensures.kept c.requires.row_collects.stops c.collect-inner.ensures.kept c.kind_at-kind.ensures.0 c.closes-closing.ensures c.slot.ensures (ap (λ (s : Spot). s.ctx) c.spot-spot.ensures.result_value) c.this_at-frame.ensures.value c.finish.ensures.kept;
-  filed_2 = row-filed (names_of c.args.names.now c.args.text.now) (switches_of c.args.switches) c.requires.row_collects (acted_late (names_of c.args.names.now c.args.text.now) (switches_of c.args.switches) (place_of c.args.q) c.args.i (kind_at (words c.args.rows.now) c.args.i) (attr_at (words c.args.rows.now) c.args.i) (name_at (words c.args.rows.now) c.args.i) (children (words c.args.rows.now) c.args.i) c.is_late-late.ensures c.act_at-act.ensures.takes) c.act_at-act.ensures.small c.meet-met.ensures.kept c.requires.row_collects.stops c.collect-inner.ensures.kept c.kind_at-kind.ensures.0 c.closes-closing.ensures c.slot.ensures (ap (λ (s : Spot). s.ctx) c.spot-spot.ensures.result_value) c.this_at-frame.ensures.value _ c.collect-inner.ensures.filed_2 c.finish.ensures.made_unchanged;
-}
+collect_row-returns t c =
+    let d = acted_late (names_of c.args.names.now c.args.text.now) (switches_of c.args.switches) (place_of c.args.q) c.args.i (kind_at
+    (words c.args.rows.now) c.args.i) (attr_at (words c.args.rows.now) c.args.i) (name_at (words c.args.rows.now) c.args.i) (children
+    (words c.args.rows.now) c.args.i) c.is_late-late.ensures c.act_at-act.ensures.takes in
+    record {
+      kept = row_kept (names_of c.args.names.now c.args.text.now)
+          (switches_of c.args.switches) c.requires.row_collects d c.act_at-act.ensures.small c.meet-met.ensures.kept c.requires.row_collects.stops
+          c.collect-inner.ensures.kept c.kind_at-kind.ensures.0 c.closes-closing.ensures c.slot.ensures (ap (λ
+          (s : Spot). s.ctx) c.spot-spot.ensures.result_value) c.this_at-frame.ensures.value c.finish.ensures.kept;
+      filed_2 = row-filed (names_of c.args.names.now c.args.text.now)
+          (switches_of c.args.switches) c.requires.row_collects d c.act_at-act.ensures.small c.meet-met.ensures.kept c.requires.row_collects.stops
+          c.collect-inner.ensures.kept c.kind_at-kind.ensures.0 c.closes-closing.ensures c.slot.ensures (ap (λ
+          (s : Spot). s.ctx) c.spot-spot.ensures.result_value) c.this_at-frame.ensures.value _ c.collect-inner.ensures.filed_2 c.finish.ensures.made_unchanged;
+    }

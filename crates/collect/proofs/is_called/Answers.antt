@@ -1,7 +1,6 @@
 -- `collect::is_called` meets its contract. Assumes nothing.
 use Rattle.passes.specs.View.{op_of}
 use Rattle.collect.specs.Collecting.{is_called}
-use borrow.Author.Rules.{rules}
 use Rattle.collect.proofs.is_called.Goals as goal
 
 pub returns-in-Row : goal.returns-in-Row

@@ -2,7 +2,6 @@
 use Rattle.steps.specs.Outcome.{names_of}
 use Rattle.acts.specs.View.{switches_of}
 use Rattle.collect.proofs.Starting.{no_binds, program_collects, program_kept, program_filed}
-use borrow.Author.Rules.{rules}
 use Rattle.collect.proofs.make_bindings.Goals as goal
 
 pub collect-requires : goal.collect-requires

@@ -2,7 +2,6 @@
 use Rattle.steps.specs.Outcome.{names_of}
 use Rattle.collect.proofs.Meeting.{filed_as, name-filed, call-filed, row_meets, drop_meets, name-small, name-asks, name_meets, call-small, property-small, call_asks, call-meets}
 use native.Mathlib.Omega.{arith}
-use borrow.Author.Rules.{rules}
 use Rattle.collect.proofs.meet.Goals as goal
 
 pub overflow_cast-usage : goal.overflow_cast-usage
@@ -43,10 +42,13 @@ returns-in-Drop c = record {
 }
 
 pub returns-in-Name : goal.returns-in-Name
-returns-in-Name c = record {
-  kept = name_meets (names_of c.args.names.now c.args.text.now) c.args.made.now c.args.cap c.args.count c.args.op _ _ c.in-Name.is c.requires.meets _ _ c.capture-kept.ensures.kept;
-  filed_2 = name-filed (names_of c.args.names.now c.args.text.now) c.args.made.now c.args.cap c.args.count c.args.op _ _ c.in-Name.is c.requires.meets _ c.requires.filed c.capture-kept.ensures.made_unchanged;
-}
+returns-in-Name c =
+    record {
+      kept = name_meets (names_of c.args.names.now c.args.text.now) c.args.made.now c.args.cap c.args.count c.args.op _ _ c.in-Name.is c.requires.meets _ _
+          c.capture-kept.ensures.kept;
+      filed_2 = name-filed (names_of c.args.names.now c.args.text.now) c.args.made.now c.args.cap c.args.count c.args.op _ _ c.in-Name.is c.requires.meets _
+          c.requires.filed c.capture-kept.ensures.made_unchanged;
+    }
 
 pub returns-in-Call : goal.returns-in-Call
 returns-in-Call c = record {

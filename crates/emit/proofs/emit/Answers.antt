@@ -1,7 +1,6 @@
 -- `emit::emit` meets its contract. Assumes nothing.
 use Rattle.output.proofs.Writing.{named}
 use Rattle.emit.proofs.Starting.{program_rows, program_room, program_pre}
-use borrow.Author.Rules.{rules}
 use Rattle.emit.proofs.emit.Goals as goal
 
 pub list-requires : goal.list-requires

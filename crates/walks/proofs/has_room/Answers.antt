@@ -1,7 +1,6 @@
 -- `walks::has_room` meets its contract. Assumes nothing.
 use native.Mathlib.Omega.{arith}
 use Rattle.walks.proofs.Readying.{much_room, walk_asks, counted-room}
-use borrow.Author.Rules.{rules}
 use Rattle.walks.proofs.has_room.Goals as goal
 
 pub returns-then-n-walk : goal.returns-then-n-walk

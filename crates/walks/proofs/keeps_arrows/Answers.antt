@@ -3,10 +3,8 @@ use mathlib.Core.Path.{sym}
 use mathlib.Core.Bool.{true≢false}
 use Prim.Native.Nat.{◌-◌}
 use native.Mathlib.Omega.{arith}
-use borrow.Author.Rules.{rules}
-use Rattle.names.specs.Words.{words}
 use Rattle.acts.specs.View.{switches_of}
-use Rattle.walks.proofs.Quiet.{KeptArrows, none_before, one_more-kept, all_kept}
+use Rattle.walks.proofs.Quiet.{none_before, one_more-kept, all_kept}
 use Rattle.walks.proofs.keeps_arrows.Goals as goal
 
 pub loop-i-init : goal.loop-i-init

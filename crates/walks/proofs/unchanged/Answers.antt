@@ -1,7 +1,6 @@
 -- `walks::unchanged` meets its contract. Assumes nothing.
 use native.Mathlib.Omega.{arith}
 use Rattle.walks.proofs.Readying.{given-rows, no-room-copied, all-copied}
-use borrow.Author.Rules.{rules}
 use Rattle.walks.proofs.unchanged.Goals as goal
 
 pub returns-then-out_rows-rows : goal.returns-then-out_rows-rows

@@ -1,22 +1,21 @@
 -- `converter::result::result` meets its contract. Assumes nothing.
 use native.Mathlib.Omega.{arith}
-use borrow.Author.Tests.{not-true, not-false}
-use borrow.Author.Rules.{rules}
 use Rattle.steps.specs.Outcome.{names_of}
 use Rattle.forest.specs.Forest.{table}
 use Rattle.acts.specs.View.{switches_of}
 use Rattle.walks.proofs.Readying.{flags, steps-off, given-rows}
-use Rattle.std.proofs.lemmas.Bool.{not-true, not-false}
 use Rattle.converter.proofs.result.result.Goals as goal
 
 pub unchanged-requires : goal.unchanged-requires
-unchanged-requires c = record {
-  accepted = c.requires;
-  unchanged = steps-off (names_of c.args.names.now c.args.text.now) (switches_of c.args.switches) (table c.args.rows.now) (flags _ _ _ _ c.is_enabled-enabled.ensures c.is_async_only-only.ensures (not-true _ (not-true _ c.if-not-enabled-only.true)));
-}
+unchanged-requires c =
+    record {
+      accepted = c.requires;
+      unchanged = steps-off (names_of c.args.names.now c.args.text.now) (switches_of c.args.switches) (table c.args.rows.now)
+          (flags _ _ _ _ c.is_enabled-enabled.ensures c.is_async_only-only.ensures c.if-not-enabled-only.true);
+    }
 
 pub over-requires : goal.over-requires
 over-requires c = record {
   accepted = c.requires;
-  switches_value = ((flags _ _ _ _ c.is_enabled-enabled.ensures c.is_async_only-only.ensures (not-false _ (not-false _ c.if-not-enabled-only.false))), (let g = (given-rows _ _ _ _ c.requires).few in omega arith, omega arith));
+  switches_value = ((flags _ _ _ _ c.is_enabled-enabled.ensures c.is_async_only-only.ensures c.if-not-enabled-only.false), (let g = (given-rows _ _ _ _ c.requires).few in omega arith, omega arith));
 }

@@ -2,8 +2,15 @@
 use mathlib.Core.Path.{refl}
 use native.Mathlib.Omega.{arith}
 use Rattle.converter.proofs.Spaces.{zero_store, zero_filed}
-use borrow.Author.Rules.{rules}
 use Rattle.converter.proofs.result.up_to_16384.Goals as goal
 
 pub write_result-requires : goal.write_result-requires
-write_result-requires c = record { accepted = c.requires.accepted; on = c.requires.switches_value.0; empty = zero_store 196608 16384 refl (omega arith); unfiled = zero_filed c.args.names.now c.args.text.now 196608 16384; low = omega arith; fits = c.requires.switches_value.1 }
+write_result-requires c =
+    record {
+      accepted = c.requires.accepted;
+      on = c.requires.switches_value.0;
+      empty = zero_store 196608 16384 refl (omega arith);
+      unfiled = zero_filed c.args.names.now c.args.text.now 196608 16384;
+      low = omega arith;
+      fits = c.requires.switches_value.1;
+    }

@@ -1,7 +1,6 @@
 -- `emit_plan::bodies::close_body` meets its contract. Assumes nothing.
 use mathlib.Core.Path.{refl, ◌∙◌}
 use native.Mathlib.Omega.{arith}
-use borrow.Author.Rules.{rules}
 use Rattle.emit_plan.proofs.bodies.close_body.Goals as goal
 
 pub overflow_add-at : goal.overflow_add-at

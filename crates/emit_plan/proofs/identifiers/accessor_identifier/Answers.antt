@@ -1,6 +1,5 @@
 -- `emit_plan::identifiers::accessor_identifier` meets its contract. Assumes nothing.
 use Rattle.output.proofs.Writing.{leaf}
-use borrow.Author.Rules.{rules}
 use Rattle.emit_plan.proofs.identifiers.accessor_identifier.Goals as goal
 
 pub returns : goal.returns

@@ -1,7 +1,6 @@
 -- `emit_plan::identifiers::captured_identifier` meets its contract. Assumes nothing.
 use borrow.Author.Tests.{ne_eqb}
 use Rattle.output.proofs.Writing.{leaf}
-use borrow.Author.Rules.{rules}
 use Rattle.emit_plan.proofs.identifiers.captured_identifier.Goals as goal
 
 pub returns-then-usage-eq1 : goal.returns-then-usage-eq1

@@ -1,7 +1,6 @@
 -- `emit_plan::identifiers::get_this_identifier` meets its contract. Assumes nothing.
 use Rattle.emit_plan.specs.Idents.{this_row}
 use Rattle.output.proofs.Writing.{leaf}
-use borrow.Author.Rules.{rules}
 use Rattle.emit_plan.proofs.identifiers.get_this_identifier.Goals as goal
 
 pub returns-then-context : goal.returns-then-context

@@ -1,7 +1,6 @@
 -- `emit_plan::plans::is_direct` meets its contract. Assumes nothing.
 use mathlib.Core.Path.{◌∙◌}
 use Rattle.emit_plan.proofs.Unchanged.{direct_yes, direct_no}
-use borrow.Author.Rules.{rules}
 use Rattle.emit_plan.proofs.plans.is_direct.Goals as goal
 
 pub returns-then-kind-state : goal.returns-then-kind-state

@@ -1,10 +1,7 @@
 -- `emit_plan::plans::stays_at` meets its contract. Assumes nothing.
 use mathlib.Core.Path.{sym, ◌∙◌}
 use mathlib.Core.Bool.{false≢true}
-use Rattle.emit_plan.proofs.Written.{unnot}
 use Rattle.emit_plan.proofs.Unchanged.{unchanged_at}
-use borrow.Author.Rules.{rules}
-use Rattle.std.proofs.lemmas.Bool.{not-false}
 use Rattle.emit_plan.proofs.plans.stays_at.Goals as goal
 
 pub returns-then-not-is_steady : goal.returns-then-not-is_steady
@@ -15,4 +12,4 @@ returns-then-is_direct c = λ h. absurd (false≢true h)
 
 pub returns : goal.returns
 returns c =
-    λ h. unchanged_at c.kind_at-kind.ensures.0 c.attr_at.ensures.0 (c.is_steady.ensures (unnot c.is_steady.result (not-false _ c.if-not-is_steady.false))) (sym c.is_direct.ensures ∙ c.if-is_direct.false) (c.stays.ensures h)
+    λ h. unchanged_at c.kind_at-kind.ensures.0 c.attr_at.ensures.0 (c.is_steady.ensures c.if-not-is_steady.false) (sym c.is_direct.ensures ∙ c.if-is_direct.false) (c.stays.ensures h)

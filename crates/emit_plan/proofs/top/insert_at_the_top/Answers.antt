@@ -3,19 +3,21 @@ use Prim.Native.Nat.{◌+◌, ◌<◌, ◌^◌}
 use mathlib.Core.Path.{sym, subst, ◌∙◌}
 use mathlib.Core.Bool.{Bool, cond}
 use lib.Dec.{eqb}
+use Rattle.grammar.specs.Kinds.{Program}
 use Rattle.forest.specs.Forest.{Rows.none, size}
 use Rattle.steps.specs.Slots.{late_body}
 use Rattle.steps.specs.TopInsertion.{var_first}
 use Rattle.insertion.specs.Declarations.{frame_decls}
 use Rattle.output.proofs.Writing.{nothing}
-use borrow.Author.Rules.{rules}
 use Rattle.emit_plan.proofs.top.insert_at_the_top.Goals as goal
 
 pub insert_variable_statement_at_the_top_of_statements-requires : goal.insert_variable_statement_at_the_top_of_statements-requires
-insert_variable_statement_at_the_top_of_statements-requires c = record {
-  held = c.requires.held;
-  none_bound = subst (λ (y : Bool). c.args.at + size (cond y (var_first (frame_decls c.args.made.now c.args.walk.cap c.args.walk.count c.args.frame (eqb c.args.kind Program) (eqb c.args.slot late_body)) none) none) < 2 ^ 32) (sym c.closes-closing.ensures ∙ c.if-closing.true) c.requires.frame_bound;
-}
+insert_variable_statement_at_the_top_of_statements-requires c =
+    record {
+      held = c.requires.held;
+      none_bound = subst (λ (y : Bool). c.args.at + size (cond y (var_first (frame_decls c.args.made.now c.args.walk.cap c.args.walk.count c.args.frame
+          (eqb c.args.kind Program) (eqb c.args.slot late_body)) none) none) < 2 ^ 32) (sym c.closes-closing.ensures ∙ c.if-closing.true) c.requires.frame_bound;
+    }
 
 pub returns-then-closing : goal.returns-then-closing
 returns-then-closing c = rw (sym c.closes-closing.ensures ∙ c.if-closing.true) c.insert_variable_statement_at_the_top_of_statements.ensures

@@ -1,7 +1,7 @@
 -- `walks::copy::copy_rows` meets its contract. Assumes nothing.
 use Prim.Native.Nat.{◌-◌}
 use native.Mathlib.Omega.{arith}
-use Rattle.walks.proofs.Copying.{Copies, copies_start, copies-next, copies-end}
+use Rattle.walks.proofs.Copying.{copies_start, copies-next, copies-end}
 use Rattle.walks.proofs.copy.copy_rows.Goals as goal
 
 pub loop-i-init : goal.loop-i-init

@@ -1,7 +1,6 @@
 -- `walks::copy::copy_rows` meets its contract. Assumes nothing.
 use Prim.Native.Nat.{◌-◌}
-use native.Mathlib.Omega.{arith}
-use Rattle.walks.proofs.Copying.{Copies, copies_start, copies-next, copies-end}
+use Rattle.walks.proofs.Copying.{Copies}
 use Rattle.walks.proofs.copy.copy_rows.Given as goal
 
 abbrev pub invariant-loop-i : goal.invariant-loop-i

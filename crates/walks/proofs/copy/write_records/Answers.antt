@@ -2,7 +2,7 @@
 use mathlib.Core.Path.{refl}
 use Prim.Native.Nat.{◌-◌}
 use native.Mathlib.Omega.{arith}
-use Rattle.walks.proofs.Copying.{Records, records-first, records-next, records_end}
+use Rattle.walks.proofs.Copying.{records-first, records-next, records_end}
 use Rattle.walks.proofs.copy.write_records.Goals as goal
 
 pub loop-i-init : goal.loop-i-init

@@ -1,8 +1,6 @@
 -- `walks::copy::write_records` meets its contract. Assumes nothing.
-use mathlib.Core.Path.{refl}
 use Prim.Native.Nat.{◌-◌}
-use native.Mathlib.Omega.{arith}
-use Rattle.walks.proofs.Copying.{Records, records-first, records-next, records_end}
+use Rattle.walks.proofs.Copying.{Records}
 use Rattle.walks.proofs.copy.write_records.Given as goal
 
 abbrev pub invariant-loop-i : goal.invariant-loop-i
