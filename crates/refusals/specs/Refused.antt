@@ -1,5 +1,5 @@
 -- Refusals 6, 7 and 8 together, in the order in which they are tested. Assumes nothing.
-use Rattle.std.specs.Prelude.{ℕ, suc, Bool, ◌&&◌, ◌||◌, List, eqb}
+use Rattle.std.specs.Prelude.{ℕ, Bool, ◌&&◌, ◌||◌, List, eqb}
 use Rattle.grammar.specs.Kinds.{Declarator, Function, Class}
 use Rattle.names.specs.Names.{is_arguments}
 use Rattle.forest.specs.Forest.{Rows}

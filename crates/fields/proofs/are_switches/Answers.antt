@@ -1,6 +1,5 @@
 -- `fields::are_switches` meets its contract. Assumes nothing.
 use Rattle.fields.proofs.Splitting.{switches-short, switches-five}
-use borrow.Author.Rules.{rules}
 use Rattle.fields.proofs.are_switches.Goals as goal
 
 pub returns-then-s-ne5 : goal.returns-then-s-ne5

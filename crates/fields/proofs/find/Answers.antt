@@ -1,8 +1,5 @@
 -- `fields::find` meets its contract. Assumes nothing.
-use Prim.Native.Nat.{◌+◌, ◌-◌, ◌≤◌}
-use mathlib.Core.Path.{◌≡◌, refl}
-use lib.ListN.{length, drop}
-use Rattle.fields.specs.Fields.{up_to}
+use mathlib.Core.Path.{refl}
 use Rattle.fields.proofs.Splitting.{find_hit, find_miss, find_end}
 use native.Mathlib.Omega.{arith}
 use Rattle.fields.proofs.find.Goals as goal

@@ -1,10 +1,8 @@
 -- `fields::find` meets its contract. Assumes nothing.
 use Prim.Native.Nat.{◌+◌, ◌-◌, ◌≤◌}
-use mathlib.Core.Path.{◌≡◌, refl}
+use mathlib.Core.Path.{◌≡◌}
 use lib.ListN.{length, drop}
 use Rattle.fields.specs.Fields.{up_to}
-use Rattle.fields.proofs.Splitting.{find_hit, find_miss, find_end}
-use native.Mathlib.Omega.{arith}
 use Rattle.fields.proofs.find.Given as goal
 
 abbrev pub invariant-loop-i : goal.invariant-loop-i

@@ -1,11 +1,8 @@
 -- `fields::read_number` meets its contract. Assumes nothing.
 use Prim.Native.Nat.{◌-◌, ◌≤◌}
-use mathlib.Core.Path.{◌≡◌, sym, ◌∙◌}
-use mathlib.Core.Logic.{⊎_elim}
+use mathlib.Core.Path.{◌≡◌}
 use lib.ListN.{length, drop}
 use Rattle.fields.specs.Fields.{digits_of, number}
-use Rattle.fields.proofs.Splitting.{number-start, number_empty, number-zero, digit_low, digit_high, digit_big, digit_next, digit_end}
-use native.Mathlib.Omega.{arith}
 use Rattle.fields.proofs.read_number.Given as goal
 
 abbrev pub invariant-loop-i : goal.invariant-loop-i

@@ -1,6 +1,5 @@
 -- `fields::read_row` meets its contract. Assumes nothing.
 use Rattle.fields.proofs.Splitting.{row_one, row-two, row-three, row-many, row-four}
-use borrow.Author.Rules.{rules}
 use Rattle.fields.proofs.read_row.Goals as goal
 
 pub returns-then-i-s : goal.returns-then-i-s

@@ -1,5 +1,4 @@
 -- `fields::row_of` meets its contract. Assumes nothing.
-use borrow.Author.Rules.{rules}
 use Rattle.fields.proofs.row_of.Goals as goal
 
 pub returns : goal.returns

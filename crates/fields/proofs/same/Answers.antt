@@ -1,8 +1,5 @@
 -- `fields::same` meets its contract. Assumes nothing.
-use Prim.Native.Nat.{◌-◌, ◌≤◌}
-use mathlib.Core.Path.{◌≡◌, refl, sym, ◌∙◌}
-use lib.ListN.{length, drop}
-use Rattle.fields.specs.Fields.{same_bytes}
+use mathlib.Core.Path.{refl, sym, ◌∙◌}
 use Rattle.fields.proofs.Splitting.{same_lengths, same_next, same_not, same_end}
 use native.Mathlib.Omega.{arith}
 use Rattle.fields.proofs.same.Goals as goal

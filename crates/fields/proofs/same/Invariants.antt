@@ -1,10 +1,8 @@
 -- `fields::same` meets its contract. Assumes nothing.
 use Prim.Native.Nat.{◌-◌, ◌≤◌}
-use mathlib.Core.Path.{◌≡◌, refl, sym, ◌∙◌}
+use mathlib.Core.Path.{◌≡◌}
 use lib.ListN.{length, drop}
 use Rattle.fields.specs.Fields.{same_bytes}
-use Rattle.fields.proofs.Splitting.{same_lengths, same_next, same_not, same_end}
-use native.Mathlib.Omega.{arith}
 use Rattle.fields.proofs.same.Given as goal
 
 abbrev pub invariant-loop-i : goal.invariant-loop-i

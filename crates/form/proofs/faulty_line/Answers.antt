@@ -1,7 +1,6 @@
 -- `form::faulty_line` meets its contract. Assumes nothing.
 use Rattle.form.proofs.Ending.{told_form, told_line}
 use native.Mathlib.Omega.{arith}
-use borrow.Author.Rules.{rules}
 use Rattle.form.proofs.faulty_line.Goals as goal
 
 pub returns-then-last-eq5 : goal.returns-then-last-eq5

@@ -1,24 +1,19 @@
 -- `form::is_wanted` meets its contract. Assumes nothing.
 use Rattle.form.proofs.Ending.{wanted-one, wanted-two, wanted-three, wanted-four}
-use borrow.Author.Rules.{rules}
 use Rattle.form.proofs.is_wanted.Goals as goal
 
 pub returns-then-part-eq1 : goal.returns-then-part-eq1
 returns-then-part-eq1 c =
-    let e = c.before in
-    wanted-one e.args.part e.args.count e.args.front.now c.if-part-eq1.true c.is_switch_header.ensures
+    wanted-one c.args.part c.args.count c.args.front.now c.if-part-eq1.true c.is_switch_header.ensures
 
 pub returns-then-part-eq2 : goal.returns-then-part-eq2
 returns-then-part-eq2 c =
-    let e = c.before in
-    wanted-two e.args.part e.args.count e.args.front.now c.if-part-eq2.true c.switches_at.ensures
+    wanted-two c.args.part c.args.count c.args.front.now c.if-part-eq2.true c.switches_at.ensures
 
 pub returns-then-part-eq3 : goal.returns-then-part-eq3
 returns-then-part-eq3 c =
-    let e = c.before in
-    wanted-three e.args.part e.args.count e.args.front.now c.if-part-eq3.true c.is_name_header.ensures
+    wanted-three c.args.part c.args.count c.args.front.now c.if-part-eq3.true c.is_name_header.ensures
 
 pub returns : goal.returns
 returns c =
-    let e = c.before in
-    wanted-four e.args.part e.args.count e.args.front.now c.if-part-eq1.false c.if-part-eq2.false c.if-part-eq3.false c.is_row_header.ensures
+    wanted-four c.args.part c.args.count c.args.front.now c.if-part-eq1.false c.if-part-eq2.false c.if-part-eq3.false c.is_row_header.ensures

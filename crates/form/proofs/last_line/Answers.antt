@@ -1,7 +1,6 @@
 -- `form::last_line` meets its contract. Assumes nothing.
 use Rattle.form.proofs.Ending.{close_empty, close-line}
 use native.Mathlib.Omega.{arith}
-use borrow.Author.Rules.{rules}
 use Rattle.form.proofs.last_line.Goals as goal
 
 pub returns-then-form-eq0 : goal.returns-then-form-eq0

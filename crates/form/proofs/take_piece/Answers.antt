@@ -1,7 +1,5 @@
 -- `form::take_piece` meets its contract. Assumes nothing.
-use Rattle.form.proofs.Ending.{Scans, scan-start, scan_byte, scan_done}
-use lib.ListN.{length}
-use Prim.Native.Nat.{◌-◌}
+use Rattle.form.proofs.Ending.{scan-start, scan_byte, scan_done}
 use native.Mathlib.Omega.{arith}
 use Rattle.form.proofs.take_piece.Goals as goal
 
@@ -21,7 +19,7 @@ pub loop-i-smaller : goal.loop-i-smaller
 loop-i-smaller c = omega (arith, c.loop-i-test.true)
 
 pub loop-i-preserved : goal.loop-i-preserved
-loop-i-preserved c = scan_byte c.loop-i.invariant c.loop-i-test.true c.take_byte-at.ensures c.take_byte-at.auto.1.0
+loop-i-preserved c = scan_byte c.loop-i.invariant c.loop-i-test.true c.take_byte-at.ensures c.take_byte-at.auto.front
 
 pub shape_of-front : goal.shape_of-front
 shape_of-front c = c.loop-i.invariant.long

@@ -1,8 +1,7 @@
 -- `form::take_piece` meets its contract. Assumes nothing.
-use Rattle.form.proofs.Ending.{Scans, scan-start, scan_byte, scan_done}
+use Rattle.form.proofs.Ending.{Scans}
 use lib.ListN.{length}
 use Prim.Native.Nat.{◌-◌}
-use native.Mathlib.Omega.{arith}
 use Rattle.form.proofs.take_piece.Given as goal
 
 abbrev pub invariant-loop-i : goal.invariant-loop-i

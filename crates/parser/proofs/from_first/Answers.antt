@@ -3,7 +3,6 @@ use mathlib.Core.Path.{sym, ◌∙◌}
 use native.Mathlib.Nat.{pos_of_ne-zero}
 use native.Mathlib.Omega.{arith}
 use Rattle.parser.proofs.Sheets.{carry, fault, first-none, first_yes, first_no}
-use borrow.Author.Rules.{rules}
 use Rattle.parser.proofs.from_first.Goals as goal
 
 pub returns-then-s-eq0 : goal.returns-then-s-eq0

@@ -1,7 +1,6 @@
 -- `parser::from_fourth` meets its contract. Assumes nothing.
 use native.Mathlib.Omega.{arith}
 use Rattle.parser.proofs.Sheets.{past_inside, names_missing, rows-wrong, rows-count}
-use borrow.Author.Rules.{rules}
 use Rattle.parser.proofs.from_fourth.Goals as goal
 
 pub overflow_add-k : goal.overflow_add-k

@@ -2,7 +2,6 @@
 use mathlib.Core.Path.{sym, ◌∙◌}
 use native.Mathlib.Omega.{arith}
 use Rattle.parser.proofs.Sheets.{carry, fault, second_none, second_yes, second_no}
-use borrow.Author.Rules.{rules}
 use Rattle.parser.proofs.from_second.Goals as goal
 
 pub returns-then-s-at : goal.returns-then-s-at

@@ -2,7 +2,6 @@
 use mathlib.Core.Path.{sym, ◌∙◌}
 use native.Mathlib.Omega.{arith}
 use Rattle.parser.proofs.Sheets.{carry, fault, third_none, third_yes, third_no}
-use borrow.Author.Rules.{rules}
 use Rattle.parser.proofs.from_third.Goals as goal
 
 pub returns-then-s-at : goal.returns-then-s-at

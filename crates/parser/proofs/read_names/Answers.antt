@@ -1,11 +1,8 @@
 -- `parser::read_names` meets its contract. Assumes nothing.
 use mathlib.Core.Path.{sym, ◌∙◌}
-use Prim.Native.Nat.{◌-◌}
 use native.Mathlib.Omega.{arith}
-use borrow.Author.Rules.{rules}
-use lib.ListN.{length}
 use Rattle.fields.proofs.Splitting.{next_ahead}
-use Rattle.parser.proofs.Reading.{Naming, naming_start, naming_none, naming-ends, naming-next}
+use Rattle.parser.proofs.Reading.{naming_start, naming_none, naming-ends, naming-next}
 use Rattle.parser.proofs.read_names.Goals as goal
 
 pub loop-p-init : goal.loop-p-init
@@ -25,7 +22,7 @@ loop-p-smaller c = omega (arith, next_ahead c.args.s.now _ _ _ c.find-e.ensures 
 
 pub loop-p-preserved : goal.loop-p-preserved
 loop-p-preserved c =
-    naming-next _ _ _ _ _ _ _ _ _ c.loop-p.invariant _ _ c.find-e.ensures c.loop-p-test.true c.next_line-q.ensures _ _ _ (sym c.if-is_row_header.false ∙ c.is_row_header.ensures) c.put_pair.ensures c.put_pair.auto.0 c.put_part-t.ensures c.put_part-t.auto.0
+    naming-next _ _ _ _ _ _ _ _ _ c.loop-p.invariant _ _ c.find-e.ensures c.loop-p-test.true c.next_line-q.ensures _ _ _ (sym c.if-is_row_header.false ∙ c.is_row_header.ensures) c.put_pair.ensures c.put_pair.auto.out c.put_part-t.ensures c.put_part-t.auto.text
 
 pub shape_of-pairs : goal.shape_of-pairs
 shape_of-pairs c = c.loop-p.invariant.long

@@ -1,11 +1,8 @@
 -- `parser::read_rows` meets its contract. Assumes nothing.
 use mathlib.Core.Path.{refl, sym, ◌∙◌}
-use Prim.Native.Nat.{◌-◌}
 use native.Mathlib.Omega.{arith}
-use borrow.Author.Rules.{rules}
-use lib.ListN.{length}
 use Rattle.fields.proofs.Splitting.{line-next, line_first, next_ahead}
-use Rattle.parser.proofs.Reading.{Turn, turn-start, turn_end, turn-fault, turn-full, turn-next}
+use Rattle.parser.proofs.Reading.{turn-start, turn_end, turn-fault, turn-full, turn-next}
 use Rattle.parser.proofs.read_rows.Goals as goal
 
 pub loop-p-init : goal.loop-p-init
@@ -28,7 +25,7 @@ loop-p-smaller c = omega (arith, next_ahead c.args.s.now _ _ _ c.find-e.ensures 
 
 pub loop-p-preserved : goal.loop-p-preserved
 loop-p-preserved c =
-    turn-next _ _ _ _ _ _ _ c.loop-p.invariant _ _ (line-next _ _ _ _ c.find-e.ensures c.loop-p-test.true c.next_line-p.ensures) _ _ _ _ _ _ refl c.next_line-p.ensures.inside (sym c.row_at-row.ensures ∙ c.in-Words.is) c.if-n-ge-MOST_ROWS.false c.put_row.ensures c.put_row.auto.0
+    turn-next _ _ _ _ _ _ _ c.loop-p.invariant _ _ (line-next _ _ _ _ c.find-e.ensures c.loop-p-test.true c.next_line-p.ensures) _ _ _ _ _ _ refl c.next_line-p.ensures.inside (sym c.row_at-row.ensures ∙ c.in-Words.is) c.if-n-ge-MOST_ROWS.false c.put_row.ensures c.put_row.auto.out
 
 pub shape_of-rows : goal.shape_of-rows
 shape_of-rows c = c.loop-p.invariant.long

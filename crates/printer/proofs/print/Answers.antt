@@ -1,7 +1,6 @@
 -- `printer::print` meets its contract. Assumes nothing.
 use native.Mathlib.Omega.{arith}
 use Rattle.printer.proofs.Printing.{parts}
-use borrow.Author.Rules.{rules}
 use Rattle.printer.proofs.print.Goals as goal
 
 pub returns : goal.returns

@@ -1,7 +1,6 @@
 -- `printer::put_field` meets its contract. Assumes nothing.
 use Rattle.decimal.proofs.Writing.{then}
 use native.Mathlib.Omega.{arith}
-use borrow.Author.Rules.{rules}
 use Rattle.printer.proofs.put_field.Goals as goal
 
 pub returns : goal.returns

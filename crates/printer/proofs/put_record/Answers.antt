@@ -1,5 +1,4 @@
 -- `printer::put_record` meets its contract. Assumes nothing.
-use borrow.Author.Rules.{rules}
 use Rattle.printer.proofs.put_record.Goals as goal
 
 pub returns : goal.returns

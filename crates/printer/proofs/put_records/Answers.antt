@@ -1,11 +1,7 @@
 -- `printer::put_records` meets its contract. Assumes nothing.
-use mathlib.Core.Path.{◌≡◌, refl, ◌∙◌}
-use Prim.Native.Nat.{◌+◌, ◌-◌, ◌*◌, ◌≤◌}
+use mathlib.Core.Path.{refl, ◌∙◌}
 use native.Mathlib.Omega.{arith}
-use lib.ListN.{length, take}
 use Rattle.names.specs.Words.{words}
-use Rattle.decimal.specs.Decimal.{Wrote}
-use Rattle.printer.specs.Print.{record_lines}
 use Rattle.printer.proofs.Printing.{no_records, record_more, all_records, words_long}
 use Rattle.printer.proofs.put_records.Goals as goal
 
@@ -19,7 +15,7 @@ pub loop-i-preserved : goal.loop-i-preserved
 loop-i-preserved c =
     let w = c.put_record-to.ensures in
     let z = words_long c.args.records.now in
-    (omega arith, omega (arith, w.1), c.put_record-to.auto.0 ∙ c.loop-i.invariant.2, record_more _ _ _ (words c.args.records.now) _ c.loop-i.i _ _ (omega arith) c.loop-i.invariant.3 w.0)
+    (omega arith, omega (arith, w.1), c.put_record-to.auto.out ∙ c.loop-i.invariant.2, record_more _ _ _ (words c.args.records.now) _ c.loop-i.i _ _ (omega arith) c.loop-i.invariant.3 w.0)
 
 pub shape_of-out : goal.shape_of-out
 shape_of-out c = c.loop-i.invariant.2

@@ -1,12 +1,10 @@
 -- `printer::put_records` meets its contract. Assumes nothing.
-use mathlib.Core.Path.{◌≡◌, refl, ◌∙◌}
+use mathlib.Core.Path.{◌≡◌}
 use Prim.Native.Nat.{◌+◌, ◌-◌, ◌*◌, ◌≤◌}
-use native.Mathlib.Omega.{arith}
 use lib.ListN.{length, take}
 use Rattle.names.specs.Words.{words}
 use Rattle.decimal.specs.Decimal.{Wrote}
 use Rattle.printer.specs.Print.{record_lines}
-use Rattle.printer.proofs.Printing.{no_records, record_more, all_records, words_long}
 use Rattle.printer.proofs.put_records.Given as goal
 
 abbrev pub invariant-loop-i : goal.invariant-loop-i

@@ -1,5 +1,4 @@
 -- `printer::put_row` meets its contract. Assumes nothing.
-use borrow.Author.Rules.{rules}
 use Rattle.printer.proofs.put_row.Goals as goal
 
 pub returns : goal.returns

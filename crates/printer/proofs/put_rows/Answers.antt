@@ -1,11 +1,7 @@
 -- `printer::put_rows` meets its contract. Assumes nothing.
-use mathlib.Core.Path.{◌≡◌, refl, ◌∙◌}
-use Prim.Native.Nat.{◌+◌, ◌-◌, ◌*◌, ◌≤◌}
+use mathlib.Core.Path.{refl, ◌∙◌}
 use native.Mathlib.Omega.{arith}
-use lib.ListN.{length, take}
 use Rattle.names.specs.Words.{words}
-use Rattle.decimal.specs.Decimal.{Wrote}
-use Rattle.printer.specs.Print.{row_lines}
 use Rattle.printer.proofs.Printing.{no_rows, row_more, all_rows, words_long}
 use Rattle.printer.proofs.put_rows.Goals as goal
 
@@ -19,7 +15,7 @@ pub loop-i-preserved : goal.loop-i-preserved
 loop-i-preserved c =
     let w = c.put_row-to.ensures in
     let z = words_long c.args.rows.now in
-    (omega arith, omega (arith, w.1), c.put_row-to.auto.0 ∙ c.loop-i.invariant.2, row_more _ _ _ (words c.args.rows.now) _ c.loop-i.i _ _ (omega arith) c.loop-i.invariant.3 w.0)
+    (omega arith, omega (arith, w.1), c.put_row-to.auto.out ∙ c.loop-i.invariant.2, row_more _ _ _ (words c.args.rows.now) _ c.loop-i.i _ _ (omega arith) c.loop-i.invariant.3 w.0)
 
 pub shape_of-out : goal.shape_of-out
 shape_of-out c = c.loop-i.invariant.2

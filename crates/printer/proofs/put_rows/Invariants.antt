@@ -1,12 +1,10 @@
 -- `printer::put_rows` meets its contract. Assumes nothing.
-use mathlib.Core.Path.{◌≡◌, refl, ◌∙◌}
+use mathlib.Core.Path.{◌≡◌}
 use Prim.Native.Nat.{◌+◌, ◌-◌, ◌*◌, ◌≤◌}
-use native.Mathlib.Omega.{arith}
 use lib.ListN.{length, take}
 use Rattle.names.specs.Words.{words}
 use Rattle.decimal.specs.Decimal.{Wrote}
 use Rattle.printer.specs.Print.{row_lines}
-use Rattle.printer.proofs.Printing.{no_rows, row_more, all_rows, words_long}
 use Rattle.printer.proofs.put_rows.Given as goal
 
 abbrev pub invariant-loop-i : goal.invariant-loop-i

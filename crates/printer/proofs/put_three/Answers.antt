@@ -2,7 +2,6 @@
 use Rattle.decimal.proofs.Writing.{then}
 use Rattle.printer.proofs.Printing.{three-line}
 use native.Mathlib.Omega.{arith}
-use borrow.Author.Rules.{rules}
 use Rattle.printer.proofs.put_three.Goals as goal
 
 pub returns : goal.returns

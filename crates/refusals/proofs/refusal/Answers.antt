@@ -1,30 +1,43 @@
 -- `refusals::refusal` meets its contract. Assumes nothing.
 use mathlib.Core.Path.{refl, sym, ◌∙◌}
-use Prim.Native.Nat.{◌-◌}
-use borrow.Author.Tests.{not-true, not-false}
-use borrow.Author.Rules.{rules}
 use Rattle.refusals.proofs.Turning.{turned-off, turned_on, turned_plain, turned-only}
-use Rattle.std.proofs.lemmas.Bool.{not-true, not-false}
 use Rattle.refusals.proofs.refusal.Goals as goal
 
 pub returns-then-is_disabled : goal.returns-then-is_disabled
 returns-then-is_disabled c = λ w q. turned-off _ _ _ c.args.converter.mode w q (sym c.is_disabled.ensures ∙ c.if-is_disabled.true)
 
 pub returns-in-At : goal.returns-in-At
-returns-in-At c = λ w q. turned_on _ _ _ c.args.converter.mode w q _ _ _ _ (sym c.is_disabled.ensures ∙ c.if-is_disabled.false) c.is_async_only-only.ensures (sym c.first_super-six.ensures ∙ c.in-At.is) refl refl
+returns-in-At c =
+    let on = sym c.is_disabled.ensures ∙ c.if-is_disabled.false in
+    let six = sym c.first_super-six.ensures ∙ c.in-At.is in
+    λ w q. turned_on _ _ _ c.args.converter.mode w q _ _ _ _ on c.is_async_only-only.ensures six refl refl
 
 pub returns-in-At-seven : goal.returns-in-At-seven
 returns-in-At-seven c =
-    λ w q. turned_on _ _ _ c.args.converter.mode w q _ _ _ _ (sym c.is_disabled.ensures ∙ c.if-is_disabled.false) c.is_async_only-only.ensures (sym c.first_super-six.ensures ∙ c.in_default.is) (sym c.first_field-seven.ensures ∙ c.in-At-seven.is) refl
+    let on = sym c.is_disabled.ensures ∙ c.if-is_disabled.false in
+    let six = sym c.first_super-six.ensures ∙ c.in_default.is in
+    let seven = sym c.first_field-seven.ensures ∙ c.in-At-seven.is in
+    λ w q. turned_on _ _ _ c.args.converter.mode w q _ _ _ _ on c.is_async_only-only.ensures six seven refl
 
 pub returns-then-not-only : goal.returns-then-not-only
 returns-then-not-only c =
-    λ w q. turned_plain _ _ _ c.args.converter.mode w q _ _ _ (sym c.is_disabled.ensures ∙ c.if-is_disabled.false) c.is_async_only-only.ensures (sym c.first_super-six.ensures ∙ c.in_default.is) (sym c.first_field-seven.ensures ∙ c.in_default-seven.is) (not-true _ (not-true _ c.if-not-only.true))
+    let on = sym c.is_disabled.ensures ∙ c.if-is_disabled.false in
+    let six = sym c.first_super-six.ensures ∙ c.in_default.is in
+    let seven = sym c.first_field-seven.ensures ∙ c.in_default-seven.is in
+    λ w q. turned_plain _ _ _ c.args.converter.mode w q _ _ _ on c.is_async_only-only.ensures six seven c.if-not-only.true
 
 pub returns-in-At-eight : goal.returns-in-At-eight
 returns-in-At-eight c =
-    λ w q. turned-only _ _ _ c.args.converter.mode w q _ _ _ _ (sym c.is_disabled.ensures ∙ c.if-is_disabled.false) c.is_async_only-only.ensures (sym c.first_super-six.ensures ∙ c.in_default.is) (sym c.first_field-seven.ensures ∙ c.in_default-seven.is) (not-false _ (not-false _ c.if-not-only.false)) (sym c.first_arguments-eight.ensures ∙ c.in-At-eight.is)
+    let on = sym c.is_disabled.ensures ∙ c.if-is_disabled.false in
+    let six = sym c.first_super-six.ensures ∙ c.in_default.is in
+    let seven = sym c.first_field-seven.ensures ∙ c.in_default-seven.is in
+    let eight = sym c.first_arguments-eight.ensures ∙ c.in-At-eight.is in
+    λ w q. turned-only _ _ _ c.args.converter.mode w q _ _ _ _ on c.is_async_only-only.ensures six seven c.if-not-only.false eight
 
 pub returns : goal.returns
 returns c =
-    λ w q. turned-only _ _ _ c.args.converter.mode w q _ _ _ _ (sym c.is_disabled.ensures ∙ c.if-is_disabled.false) c.is_async_only-only.ensures (sym c.first_super-six.ensures ∙ c.in_default.is) (sym c.first_field-seven.ensures ∙ c.in_default-seven.is) (not-false _ (not-false _ c.if-not-only.false)) (sym c.first_arguments-eight.ensures ∙ c.in_default-eight.is)
+    let on = sym c.is_disabled.ensures ∙ c.if-is_disabled.false in
+    let six = sym c.first_super-six.ensures ∙ c.in_default.is in
+    let seven = sym c.first_field-seven.ensures ∙ c.in_default-seven.is in
+    let eight = sym c.first_arguments-eight.ensures ∙ c.in_default-eight.is in
+    λ w q. turned-only _ _ _ c.args.converter.mode w q _ _ _ _ on c.is_async_only-only.ensures six seven c.if-not-only.false eight

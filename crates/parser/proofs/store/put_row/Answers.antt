@@ -1,6 +1,5 @@
 -- `parser::store::put_row` meets its contract. Assumes nothing.
 use Rattle.parser.proofs.Storing.{four}
-use borrow.Author.Rules.{rules}
 use Rattle.parser.proofs.store.put_row.Goals as goal
 
 pub returns : goal.returns

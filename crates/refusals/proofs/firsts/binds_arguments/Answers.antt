@@ -1,6 +1,5 @@
 -- `refusals::firsts::binds_arguments` meets its contract. Assumes nothing.
 use mathlib.Core.Path.{sym}
-use borrow.Author.Rules.{rules}
 use Rattle.refusals.proofs.firsts.binds_arguments.Goals as goal
 
 pub returns-then-k : goal.returns-then-k

@@ -1,7 +1,6 @@
 -- `refusals::firsts::field_holds` meets its contract. Assumes nothing.
 use mathlib.Core.Path.{sym}
 use borrow.Author.Tests.{lt-ltb, le-ltb, ne_eqb}
-use borrow.Author.Rules.{rules}
 use Rattle.refusals.specs.Hits.{holds_at}
 use Rattle.refusals.proofs.firsts.field_holds.Goals as goal
 

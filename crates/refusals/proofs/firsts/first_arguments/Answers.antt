@@ -1,10 +1,7 @@
 -- `refusals::firsts::first_arguments` meets its contract. Assumes nothing.
 use mathlib.Core.Path.{sym, ◌∙◌}
-use Prim.Native.Nat.{◌-◌}
 use native.Mathlib.Omega.{arith}
-use Rattle.names.proofs.Seeking.{Seek, seek-start, seek-next, seek_found, seek-none}
-use Rattle.names.specs.Words.{words, kind_at, name_at}
-use Rattle.refusals.specs.Refused.{binds_arguments}
+use Rattle.names.proofs.Seeking.{seek-start, seek-next, seek_found, seek-none}
 use Rattle.refusals.proofs.Turning.{eight_rows}
 use Rattle.refusals.proofs.firsts.first_arguments.Goals as goal
 

@@ -1,5 +1,4 @@
 -- `refusals::firsts::found_at` meets its contract. Assumes nothing.
-use borrow.Author.Rules.{rules}
 use Rattle.refusals.proofs.firsts.found_at.Goals as goal
 
 pub returns-then-here : goal.returns-then-here

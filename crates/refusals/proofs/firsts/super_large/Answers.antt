@@ -1,5 +1,4 @@
 -- `refusals::firsts::super_large` meets its contract. Assumes nothing.
-use borrow.Author.Rules.{rules}
 use Rattle.refusals.proofs.Stands.{clear}
 use Rattle.refusals.proofs.firsts.super_large.Goals as goal
 

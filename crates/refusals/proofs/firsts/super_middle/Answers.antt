@@ -1,5 +1,4 @@
 -- `refusals::firsts::super_middle` meets its contract. Assumes nothing.
-use borrow.Author.Rules.{rules}
 use Rattle.refusals.proofs.Stands.{clear}
 use Rattle.refusals.proofs.firsts.super_middle.Goals as goal
 

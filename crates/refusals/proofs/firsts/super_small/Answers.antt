@@ -1,5 +1,4 @@
 -- `refusals::firsts::super_small` meets its contract. Assumes nothing.
-use borrow.Author.Rules.{rules}
 use Rattle.refusals.proofs.Stands.{clear}
 use Rattle.refusals.proofs.firsts.super_small.Goals as goal
 

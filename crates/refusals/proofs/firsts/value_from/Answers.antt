@@ -1,24 +1,22 @@
 -- `refusals::firsts::value_from` meets its contract. Assumes nothing.
 use mathlib.Core.Path.{sym}
-use borrow.Author.Tests.{lt-ltb, le-ltb, not-true, not-false}
-use borrow.Author.Rules.{rules}
+use borrow.Author.Tests.{lt-ltb, le-ltb}
 use Rattle.refusals.specs.Hits.{value_from}
-use Rattle.std.proofs.lemmas.Bool.{not-true, not-false}
 use Rattle.refusals.proofs.firsts.value_from.Goals as goal
 
 pub returns-then-not-has : goal.returns-then-not-has
 unfolding value_from
-returns-then-not-has c = sym (rw (← c.has.ensures, not-true c.has.result (not-true _ c.if-not-has.true)))
+returns-then-not-has c = sym (rw (← c.has.ensures, c.if-not-has.true))
 
 pub returns-then-not-has-2 : goal.returns-then-not-has-2
 unfolding value_from
-returns-then-not-has-2 c = sym (rw (← c.has.ensures, not-false c.has.result (not-false _ c.if-not-has.false), ← c.has-2.ensures, not-true c.has-2.result (not-true _ c.if-not-has-2.true)))
+returns-then-not-has-2 c = sym (rw (← c.has.ensures, c.if-not-has.false, ← c.has-2.ensures, c.if-not-has-2.true))
 
 pub returns-then-i-e : goal.returns-then-i-e
 unfolding value_from
 returns-then-i-e c =
-    sym (rw (← c.has.ensures, not-false c.has.result (not-false _ c.if-not-has.false), ← c.has-2.ensures, not-false c.has-2.result (not-false _ c.if-not-has-2.false), lt-ltb _ _ c.if-i-e.true) (sym c.cell.ensures.0))
+    sym (rw (← c.has.ensures, c.if-not-has.false, ← c.has-2.ensures, c.if-not-has-2.false, lt-ltb _ _ c.if-i-e.true) (sym c.cell.ensures.0))
 
 pub returns : goal.returns
 unfolding value_from
-returns c = sym (rw (← c.has.ensures, not-false c.has.result (not-false _ c.if-not-has.false), ← c.has-2.ensures, not-false c.has-2.result (not-false _ c.if-not-has-2.false), le-ltb _ _ c.if-i-e.false))
+returns c = sym (rw (← c.has.ensures, c.if-not-has.false, ← c.has-2.ensures, c.if-not-has-2.false, le-ltb _ _ c.if-i-e.false))

@@ -2,7 +2,6 @@
 use mathlib.Core.Path.{sym, ◌∙◌}
 use native.Mathlib.Omega.{arith}
 use borrow.Author.Tests.{ne_eqb}
-use borrow.Author.Rules.{rules}
 use Rattle.refusals.proofs.Stands.{owner_is}
 use Rattle.refusals.proofs.standing.owner.Goals as goal
 

@@ -1,6 +1,5 @@
 -- `refusals::standing::stand` meets its contract. Assumes nothing.
 use mathlib.Core.Path.{sym, ◌∙◌}
-use borrow.Author.Rules.{rules}
 use Rattle.refusals.proofs.Stands.{stand_is}
 use Rattle.refusals.proofs.standing.stand.Goals as goal
 

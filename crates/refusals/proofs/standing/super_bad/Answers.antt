@@ -1,6 +1,5 @@
 -- `refusals::standing::super_bad` meets its contract. Assumes nothing.
 use mathlib.Core.Path.{sym, ◌∙◌}
-use borrow.Author.Rules.{rules}
 use Rattle.refusals.proofs.Stands.{bad-is}
 use Rattle.refusals.proofs.standing.super_bad.Goals as goal
 

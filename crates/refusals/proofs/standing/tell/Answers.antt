@@ -1,13 +1,11 @@
 -- `refusals::standing::tell` meets its contract. Assumes nothing.
-use mathlib.Core.Path.{◌≡◌, refl, ◌∙◌}
-use Prim.Native.Nat.{ℕ, ◌-◌, ◌+◌, ◌<◌}
-use lib.ListN.{length, length-set}
+use mathlib.Core.Path.{refl, ◌∙◌}
+use Prim.Native.Nat.{ℕ, ◌+◌, ◌<◌}
+use lib.ListN.{length-set}
 use native.Mathlib.Omega.{arith}
 use borrow.Author.Tests.{ltb-true}
-use Rattle.forest.proofs.Telling.{Telling, tell_start, tell-next, tell-last, tell_done}
+use Rattle.forest.proofs.Telling.{tell_start, tell-next, tell-last, tell_done}
 use Rattle.names.proofs.Bools.{and_left}
-use Rattle.names.specs.Words.{words}
-use Rattle.refusals.specs.Standing.{first_then}
 use Rattle.refusals.proofs.Stands.{then-more}
 use Rattle.refusals.proofs.standing.tell.Goals as goal
 

@@ -1,14 +1,10 @@
 -- `refusals::standing::tell` meets its contract. Assumes nothing.
-use mathlib.Core.Path.{◌≡◌, refl, ◌∙◌}
-use Prim.Native.Nat.{ℕ, ◌-◌, ◌+◌, ◌<◌}
-use lib.ListN.{length, length-set}
-use native.Mathlib.Omega.{arith}
-use borrow.Author.Tests.{ltb-true}
-use Rattle.forest.proofs.Telling.{Telling, tell_start, tell-next, tell-last, tell_done}
-use Rattle.names.proofs.Bools.{and_left}
+use mathlib.Core.Path.{◌≡◌}
+use Prim.Native.Nat.{ℕ, ◌-◌}
+use lib.ListN.{length}
+use Rattle.forest.proofs.Telling.{Telling}
 use Rattle.names.specs.Words.{words}
 use Rattle.refusals.specs.Standing.{first_then}
-use Rattle.refusals.proofs.Stands.{then-more}
 use Rattle.refusals.proofs.standing.tell.Given as goal
 
 abbrev pub invariant-loop-c : goal.invariant-loop-c
