@@ -53,3 +53,6 @@ shows l m bs r w h =
 
 pub shown_as : (x y : List ℕ) (r : ℕ) (out : List ℕ) → x ≡ y → Shows x r out → Shows y r out
 shown_as x y r out e s = subst (λ (z : List ℕ). Shows z r out) e s
+
+pub whole_of : (n : ℕ) (x : List ℕ) → n ≡ length x → length x ≤ n
+whole_of n x e = omega arith

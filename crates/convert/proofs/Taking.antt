@@ -33,6 +33,9 @@ fault_text (faulty k) n r b l t e =
     let y : k ≡ l = cc in
     ap (λ (v : ℕ). printed 12 v [] []) (sym y)
 
+pub fault-small : (x : Read) (n : ℕ) (r : Parsed) (b : Lent) (l : ℕ) → Told x n r b → r ≡ Faulty l → l ≤ n + 1029
+fault-small x n r b l t e = subst (Small n) e t.small
+
 pub sheet-small : (x : Read) (n : ℕ) (r : Parsed) (b : Lent) (a c d : Bool) (k i t : ℕ) → Told x n r b → r ≡ Sheet a c d k i t → (k ≤ 1024) × (i ≤ n) × (t ≤ n)
 sheet-small x n r b a c d k i t u e = subst (Small n) e u.small
 

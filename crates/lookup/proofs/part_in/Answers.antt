@@ -1,5 +1,4 @@
 -- `lookup::part_in` meets its contract. Assumes nothing.
-use borrow.Author.Rules.{rules}
 use Rattle.lookup.proofs.Looking.{zeroth, past, beyond, within}
 use Rattle.lookup.proofs.part_in.Goals as goal
 

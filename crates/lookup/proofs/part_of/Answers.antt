@@ -1,5 +1,4 @@
 -- `lookup::part_of` meets its contract. Assumes nothing.
-use borrow.Author.Rules.{rules}
 use Rattle.lookup.proofs.Looking.{of_script, of_made, of_neither}
 use Rattle.lookup.proofs.part_of.Goals as goal
 

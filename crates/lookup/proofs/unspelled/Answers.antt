@@ -1,7 +1,6 @@
 -- `lookup::unspelled` meets its contract. Assumes nothing.
 use mathlib.Core.Path.{ap, ◌∙◌}
 use Rattle.lookup.specs.Parts.{number_of}
-use borrow.Author.Rules.{rules}
 use Rattle.lookup.proofs.unspelled.Goals as goal
 
 pub returns : goal.returns
