@@ -208,29 +208,37 @@ module _ (k : ℕ) where
   unfolding kind_of
   is-arrow h0 h1 h2 h3 h4 h5 h6 = rw (ne_eqb k This h0, ne_eqb k Super h1, ne_eqb k Ident h2, h3, ne_eqb k Call h4, ne_eqb k Assign h5, eq-eqb k Arrow h6)
 
-  pub is-function : (k ≡ This → ⊥) → (k ≡ Super → ⊥) → (k ≡ Ident → ⊥) → (eqb k Member || eqb k Computed) ≡ false → (k ≡ Call → ⊥) → (k ≡ Assign → ⊥) → (k ≡ Arrow → ⊥) → k ≡ Function → kind_of k ≡ Kind.function
+  pub is-function : (k ≡ This → ⊥) → (k ≡ Super → ⊥) → (k ≡ Ident → ⊥) → (eqb k Member || eqb k Computed) ≡ false → (k ≡ Call → ⊥) → (k ≡ Assign → ⊥) → (k ≡ Arrow → ⊥) →
+      k ≡ Function → kind_of k ≡ Kind.function
   unfolding kind_of
   is-function h0 h1 h2 h3 h4 h5 h6 h7 = rw (ne_eqb k This h0, ne_eqb k Super h1, ne_eqb k Ident h2, h3, ne_eqb k Call h4, ne_eqb k Assign h5, ne_eqb k Arrow h6, eq-eqb k Function h7)
 
-  pub is_keyed : (k ≡ This → ⊥) → (k ≡ Super → ⊥) → (k ≡ Ident → ⊥) → (eqb k Member || eqb k Computed) ≡ false → (k ≡ Call → ⊥) → (k ≡ Assign → ⊥) → (k ≡ Arrow → ⊥) → (k ≡ Function → ⊥) → (eqb k Method || eqb k Property) ≡ true → kind_of k ≡ Kind.keyed
+  pub is_keyed : (k ≡ This → ⊥) → (k ≡ Super → ⊥) → (k ≡ Ident → ⊥) → (eqb k Member || eqb k Computed) ≡ false → (k ≡ Call → ⊥) → (k ≡ Assign → ⊥) → (k ≡ Arrow → ⊥) →
+      (k ≡ Function → ⊥) → (eqb k Method || eqb k Property) ≡ true → kind_of k ≡ Kind.keyed
   unfolding kind_of
   is_keyed h0 h1 h2 h3 h4 h5 h6 h7 h8 = rw (ne_eqb k This h0, ne_eqb k Super h1, ne_eqb k Ident h2, h3, ne_eqb k Call h4, ne_eqb k Assign h5, ne_eqb k Arrow h6, ne_eqb k Function h7, h8)
 
-  pub is_field : (k ≡ This → ⊥) → (k ≡ Super → ⊥) → (k ≡ Ident → ⊥) → (eqb k Member || eqb k Computed) ≡ false → (k ≡ Call → ⊥) → (k ≡ Assign → ⊥) → (k ≡ Arrow → ⊥) → (k ≡ Function → ⊥) → (eqb k Method || eqb k Property) ≡ false → k ≡ Field → kind_of k ≡ Kind.field
+  pub is_field : (k ≡ This → ⊥) → (k ≡ Super → ⊥) → (k ≡ Ident → ⊥) → (eqb k Member || eqb k Computed) ≡ false → (k ≡ Call → ⊥) → (k ≡ Assign → ⊥) → (k ≡ Arrow → ⊥) →
+      (k ≡ Function → ⊥) → (eqb k Method || eqb k Property) ≡ false → k ≡ Field → kind_of k ≡ Kind.field
   unfolding kind_of
   is_field h0 h1 h2 h3 h4 h5 h6 h7 h8 h9 = rw (ne_eqb k This h0, ne_eqb k Super h1, ne_eqb k Ident h2, h3, ne_eqb k Call h4, ne_eqb k Assign h5, ne_eqb k Arrow h6, ne_eqb k Function h7, h8, eq-eqb k Field h9)
 
-  pub is_static : (k ≡ This → ⊥) → (k ≡ Super → ⊥) → (k ≡ Ident → ⊥) → (eqb k Member || eqb k Computed) ≡ false → (k ≡ Call → ⊥) → (k ≡ Assign → ⊥) → (k ≡ Arrow → ⊥) → (k ≡ Function → ⊥) → (eqb k Method || eqb k Property) ≡ false → (k ≡ Field → ⊥) → k ≡ StaticBlock → kind_of k ≡ Kind.static
+  pub is_static : (k ≡ This → ⊥) → (k ≡ Super → ⊥) → (k ≡ Ident → ⊥) → (eqb k Member || eqb k Computed) ≡ false → (k ≡ Call → ⊥) → (k ≡ Assign → ⊥) → (k ≡ Arrow → ⊥) →
+      (k ≡ Function → ⊥) → (eqb k Method || eqb k Property) ≡ false → (k ≡ Field → ⊥) → k ≡ StaticBlock → kind_of k ≡ Kind.static
   unfolding kind_of
   is_static h0 h1 h2 h3 h4 h5 h6 h7 h8 h9 h10 = rw (ne_eqb k This h0, ne_eqb k Super h1, ne_eqb k Ident h2, h3, ne_eqb k Call h4, ne_eqb k Assign h5, ne_eqb k Arrow h6, ne_eqb k Function h7, h8, ne_eqb k Field h9, eq-eqb k StaticBlock h10)
 
-  pub is-target : (k ≡ This → ⊥) → (k ≡ Super → ⊥) → (k ≡ Ident → ⊥) → (eqb k Member || eqb k Computed) ≡ false → (k ≡ Call → ⊥) → (k ≡ Assign → ⊥) → (k ≡ Arrow → ⊥) → (k ≡ Function → ⊥) → (eqb k Method || eqb k Property) ≡ false → (k ≡ Field → ⊥) → (k ≡ StaticBlock → ⊥) → k ≡ Target → kind_of k ≡ Kind.target
+  pub is-target : (k ≡ This → ⊥) → (k ≡ Super → ⊥) → (k ≡ Ident → ⊥) → (eqb k Member || eqb k Computed) ≡ false → (k ≡ Call → ⊥) → (k ≡ Assign → ⊥) → (k ≡ Arrow → ⊥) →
+      (k ≡ Function → ⊥) → (eqb k Method || eqb k Property) ≡ false → (k ≡ Field → ⊥) → (k ≡ StaticBlock → ⊥) → k ≡ Target → kind_of k ≡ Kind.target
   unfolding kind_of
-  is-target h0 h1 h2 h3 h4 h5 h6 h7 h8 h9 h10 h11 = rw (ne_eqb k This h0, ne_eqb k Super h1, ne_eqb k Ident h2, h3, ne_eqb k Call h4, ne_eqb k Assign h5, ne_eqb k Arrow h6, ne_eqb k Function h7, h8, ne_eqb k Field h9, ne_eqb k StaticBlock h10, eq-eqb k Target h11)
+  is-target h0 h1 h2 h3 h4 h5 h6 h7 h8 h9 h10 h11 =
+      rw (ne_eqb k This h0, ne_eqb k Super h1, ne_eqb k Ident h2, h3, ne_eqb k Call h4, ne_eqb k Assign h5, ne_eqb k Arrow h6, ne_eqb k Function h7, h8, ne_eqb k Field h9, ne_eqb k StaticBlock h10, eq-eqb k Target h11)
 
-  pub is-other : (k ≡ This → ⊥) → (k ≡ Super → ⊥) → (k ≡ Ident → ⊥) → (eqb k Member || eqb k Computed) ≡ false → (k ≡ Call → ⊥) → (k ≡ Assign → ⊥) → (k ≡ Arrow → ⊥) → (k ≡ Function → ⊥) → (eqb k Method || eqb k Property) ≡ false → (k ≡ Field → ⊥) → (k ≡ StaticBlock → ⊥) → (k ≡ Target → ⊥) → kind_of k ≡ Kind.other
+  pub is-other : (k ≡ This → ⊥) → (k ≡ Super → ⊥) → (k ≡ Ident → ⊥) → (eqb k Member || eqb k Computed) ≡ false → (k ≡ Call → ⊥) → (k ≡ Assign → ⊥) → (k ≡ Arrow → ⊥) →
+      (k ≡ Function → ⊥) → (eqb k Method || eqb k Property) ≡ false → (k ≡ Field → ⊥) → (k ≡ StaticBlock → ⊥) → (k ≡ Target → ⊥) → kind_of k ≡ Kind.other
   unfolding kind_of
-  is-other h0 h1 h2 h3 h4 h5 h6 h7 h8 h9 h10 h11 = rw (ne_eqb k This h0, ne_eqb k Super h1, ne_eqb k Ident h2, h3, ne_eqb k Call h4, ne_eqb k Assign h5, ne_eqb k Arrow h6, ne_eqb k Function h7, h8, ne_eqb k Field h9, ne_eqb k StaticBlock h10, ne_eqb k Target h11)
+  is-other h0 h1 h2 h3 h4 h5 h6 h7 h8 h9 h10 h11 =
+      rw (ne_eqb k This h0, ne_eqb k Super h1, ne_eqb k Ident h2, h3, ne_eqb k Call h4, ne_eqb k Assign h5, ne_eqb k Arrow h6, ne_eqb k Function h7, h8, ne_eqb k Field h9, ne_eqb k StaticBlock h10, ne_eqb k Target h11)
 
 -- an act by its kind
 pub by_kind : (N : Names) (w : Switches) (l : Bool) (c : Ctx) (sl o k a n : ℕ) (i : Rows) (K : Kind) (r : Act) → kind_of k ≡ K → Does w c (act_of N w l c sl o K k a n i) r → Does w c (act N w l c sl o k a n i) r

@@ -54,6 +54,14 @@ taken true false t = refl
 taken false m t = refl
 
 pub arrow_inside : (w : Switches) (a : ℕ) (c : Ctx) (o m : Bool) → o ≡ async_only w → m ≡ moved_arrow w a
-    → ◌≡◌ {A = Ctx} (record { takes_this = (not o || m) || c.takes_this; this_at = c.this_at; takes_super = (o && m) || c.takes_super; super_at = c.super_at; takes_arguments = m || c.takes_arguments; arguments_at = c.arguments_at }) (enter w (in_arrow a) c)
+    → ◌≡◌ {A = Ctx} (record {
+      takes_this = (not o || m) || c.takes_this;
+      this_at = c.this_at;
+      takes_super = (o && m) || c.takes_super;
+      super_at = c.super_at;
+      takes_arguments = m || c.takes_arguments;
+      arguments_at =
+          c.arguments_at;
+    }) (enter w (in_arrow a) c)
 unfolding enter
 arrow_inside w a c o m p q = rw (← p, ← q, taken o m c.takes_this)

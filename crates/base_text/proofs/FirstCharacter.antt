@@ -178,5 +178,6 @@ width_at_most s = le4 (leb (get_or s 0 0) 0x7F) (two (get_or s 0 0) (get_or s 1 
 pub first_character : (s : List ℕ) → utf8 s ≡ true → 0 < length s → encode (first_code s) ≡ take (first_width s) s
 unfolding seq_of
 first_character s u h =
-    sequence (get_or s 0 0) (get_or s 1 0) (get_or s 2 0) (get_or s 3 0) (leb (get_or s 0 0) 0x7F) (two (get_or s 0 0) (get_or s 1 0)) (three (get_or s 0 0) (get_or s 1 0) (get_or s 2 0)) (four (get_or s 0 0) (get_or s 1 0) (get_or s 2 0) (get_or s 3 0)) refl refl refl refl (some_width s u h)
+    sequence (get_or s 0 0) (get_or s 1 0) (get_or s 2 0) (get_or s 3 0) (leb (get_or s 0 0) 0x7F) (two (get_or s 0 0) (get_or s 1 0)) (three (get_or s 0 0) (get_or s 1 0) (get_or s 2 0)) (four (get_or s 0 0)
+    (get_or s 1 0) (get_or s 2 0) (get_or s 3 0)) refl refl refl refl (some_width s u h)
     ∙ sym (pad s (first_width s) h (width_fits s h) (width_at_most s))

@@ -78,7 +78,8 @@ module _ (M : List ℕ) (cap count u f : ℕ) (S : Store M cap count) (low : cou
   apart : (v g : ℕ) → g < cap → (eqb u v ≡ false) ⊎ (eqb f g ≡ false) → (v ≡ 1) ⊎ (v ≡ 2) → table_of v g ≡ at_table → ⊥
   unfolding table_of at_table
   apart v g h n (inl q) e = ⊎_elim (λ y. one-one y n)
-      (λ y. let k = subst (λ (t : ℕ). cond (eqb t 1) (4 * cap + g) (5 * cap + g) ≡ cond (eqb u 1) (4 * cap + f) (5 * cap + f)) q e in let m : 4 * cap + g ≡ 5 * cap + f = subst (λ (t : ℕ). 4 * cap + g ≡ cond (eqb t 1) (4 * cap + f) (5 * cap + f)) y k in omega arith)
+      (λ y. let k = subst (λ (t : ℕ). cond (eqb t 1) (4 * cap + g) (5 * cap + g) ≡ cond (eqb u 1) (4 * cap + f) (5 * cap + f)) q e in let m : 4 * cap + g ≡ 5 * cap + f = subst (λ (t : ℕ). 4 * cap + g ≡ cond (eqb t 1)
+      (4 * cap + f) (5 * cap + f)) y k in omega arith)
       one-two
     where
       one-one : u ≡ 1 → (eqb u v ≡ false) ⊎ (eqb f g ≡ false) → ⊥
@@ -88,7 +89,8 @@ module _ (M : List ℕ) (cap count u f : ℕ) (S : Store M cap count) (low : cou
           let m : 4 * cap + g ≡ 4 * cap + f = subst (λ (t : ℕ). 4 * cap + g ≡ cond (eqb t 1) (4 * cap + f) (5 * cap + f)) y k in
           eqb-false f g z (omega arith)
   apart v g h n (inr q) e = ⊎_elim
-      (λ y. let k = subst (λ (t : ℕ). cond (eqb t 1) (4 * cap + g) (5 * cap + g) ≡ cond (eqb u 1) (4 * cap + f) (5 * cap + f)) q e in let m : 5 * cap + g ≡ 4 * cap + f = subst (λ (t : ℕ). 5 * cap + g ≡ cond (eqb t 1) (4 * cap + f) (5 * cap + f)) y k in omega arith)
+      (λ y. let k = subst (λ (t : ℕ). cond (eqb t 1) (4 * cap + g) (5 * cap + g) ≡ cond (eqb u 1) (4 * cap + f) (5 * cap + f)) q e in let m : 5 * cap + g ≡ 4 * cap + f = subst (λ (t : ℕ). 5 * cap + g ≡ cond (eqb t 1)
+      (4 * cap + f) (5 * cap + f)) y k in omega arith)
       (λ y. two-two y n) one-two
     where
       two-two : u ≡ 2 → (eqb u v ≡ false) ⊎ (eqb f g ≡ false) → ⊥
@@ -113,7 +115,8 @@ module _ (M : List ℕ) (cap count u f : ℕ) (S : Store M cap count) (low : cou
       go true false a b = first-kept M M' cap count u 0 f S low now (capture_of v g) (table_of v g) (later (table_of v g) (high v g) (apart v g h (inr b) which)) old (capture_frame v g u 0 f b)
 
   no_class : (param : Bool) (g : ℕ) → of_class param g (bind u 0 f) ≡ false
-  no_class param g = ⊎_elim (λ q. subst (λ (t : ℕ). of_class param g (bind t 0 f) ≡ false) (sym q) (capture_class param g 1 0 f refl refl)) (λ q. subst (λ (t : ℕ). of_class param g (bind t 0 f) ≡ false) (sym q) (capture_class param g 2 0 f refl refl)) one-two
+  no_class param g = ⊎_elim (λ q. subst (λ (t : ℕ). of_class param g (bind t 0 f) ≡ false) (sym q) (capture_class param g 1 0 f refl refl)) (λ q. subst (λ (t : ℕ). of_class param g (bind t 0 f) ≡ false) (sym q)
+      (capture_class param g 2 0 f refl refl)) one-two
 
   below : at_table < 6 * cap
   unfolding at_table

@@ -246,13 +246,16 @@ module _ (M : List ℕ) (cap count u x f : ℕ) (S : Store M cap count) (low : c
 
   firsts' : (s : Bool) (g : ℕ) → g < cap → get_or M' (first_table s cap g) 0 ≡ first_where (of_class s g) 1 (binds M' cap (count + 1))
   firsts' s g h = ⊎_elim
-      (λ q. subst (λ (w : ℕ). get_or M' (first_table s cap w) 0 ≡ first_where (of_class s w) 1 (binds M' cap (count + 1))) (sym q.1) (subst (λ (t : Bool). get_or M' (first_table t cap f) 0 ≡ first_where (of_class t f) 1 (binds M' cap (count + 1))) (sym q.0) mine_first))
-      (λ n. let m = first_range s cap g h in first-kept M M' cap count u x f S low now (of_class s g) (first_table s cap g) (later (first_table s cap g) (omega arith) (not_I_first s g h n) (first-last s param g f h fl)) (S.firsts s g h) (other_class s g n))
+      (λ q. subst (λ (w : ℕ). get_or M' (first_table s cap w) 0 ≡ first_where (of_class s w) 1 (binds M' cap (count + 1))) (sym q.1) (subst (λ (t : Bool). get_or M' (first_table t cap f) 0 ≡ first_where
+      (of_class t f) 1 (binds M' cap (count + 1))) (sym q.0) mine_first))
+      (λ n. let m = first_range s cap g h in first-kept M M' cap count u x f S low now (of_class s g) (first_table s cap g) (later (first_table s cap g) (omega arith) (not_I_first s g h n)
+      (first-last s param g f h fl)) (S.firsts s g h) (other_class s g n))
       (same_chain s g)
 
   lasts' : (s : Bool) (g : ℕ) → g < cap → get_or M' (last_table s cap g) 0 ≡ last_where (of_class s g) 1 (binds M' cap (count + 1))
   lasts' s g h = ⊎_elim
-      (λ q. subst (λ (w : ℕ). get_or M' (last_table s cap w) 0 ≡ last_where (of_class s w) 1 (binds M' cap (count + 1))) (sym q.1) (subst (λ (t : Bool). get_or M' (last_table t cap f) 0 ≡ last_where (of_class t f) 1 (binds M' cap (count + 1))) (sym q.0) (last_set M M' cap count u x f S low now (of_class param f) la at_last mine)))
+      (λ q. subst (λ (w : ℕ). get_or M' (last_table s cap w) 0 ≡ last_where (of_class s w) 1 (binds M' cap (count + 1))) (sym q.1) (subst (λ (t : Bool). get_or M' (last_table t cap f) 0 ≡ last_where (of_class t f) 1
+      (binds M' cap (count + 1))) (sym q.0) (last_set M M' cap count u x f S low now (of_class param f) la at_last mine)))
       (λ n. let m = last-range s cap g h in last-kept M M' cap count u x f S low now (of_class s g) (last_table s cap g) (later (last_table s cap g) (omega arith) (not_I_last s g h) (last_apart s g h n)) (S.lasts s g h) (other_class s g n))
       (same_chain s g)
 

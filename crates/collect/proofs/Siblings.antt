@@ -163,7 +163,14 @@ module _ (N : Names) (w : Switches) {rows : List ℕ} {cap : ℕ} {M : List ℕ}
             ∙ ap (leave N q.ctx A.op) (k₂.list ∙ inside-same))
 
         pub row-finishes : Finishes M₂ cap l₂ cx.this_at f after-code
-        row-finishes = record { store = k₂.store; cap_low = P.cap_low; this_low = subst (λ (c : Ctx). c.this_at < cap) (sym xs) P.low.this; frame_low = subst (λ (m : ℕ). m < cap) (sym fs) act-is-low.more.this; room = subst (λ (l : List Binding). length l < cap) (sym after_same) P.room }
+        row-finishes = record {
+          store = k₂.store;
+          cap_low = P.cap_low;
+          this_low = subst (λ (c : Ctx). c.this_at < cap) (sym xs) P.low.this;
+          frame_low = subst (λ (m : ℕ). m < cap)
+              (sym fs) act-is-low.more.this;
+          room = subst (λ (l : List Binding). length l < cap) (sym after_same) P.room;
+        }
 
         pub row-filed : (M₃ : List ℕ) → Filed N.pairs N.text (behind cap M₂) cap inside-code → behind cap M₃ ≡ behind cap M₂ → Filed N.pairs N.text (behind cap M₃) cap after
         row-filed M₃ F e = subst (λ (I : List ℕ). Filed N.pairs N.text I cap after) (sym e) (filed_as (filed_closed b f (filed_left cx (op_of r.op) (filed_as F (sym k₂.list)))) after_same)

@@ -63,6 +63,7 @@ fn meet(op: Becomes, made: &mut [u32], cap: usize, count: usize, names: &[u8], t
 }
 
 // Whether it becomes `get().call(this, ..)`.
+#[tactic(auto, unfolding(crate::specs::Collecting::is_called, passes::specs::View::op_of))]
 fn is_called(op: Becomes) -> bool
     ensures { result ≡ is_called (op_of op) }
 {

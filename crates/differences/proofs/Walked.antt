@@ -38,11 +38,23 @@ held_both (p ∷ ps) qs (this, held) also = (this, held_both ps qs held also)
 
 -- the tables of docs/DIFFERENCES.md, in two parts, since the steps of one declaration are limited
 pub first_twelve_held : Held first_twelve
-unfolding words seq_of utf8_from utf8 first bytes_of same_bytes same_name arguments_bytes is_arguments bad_name first_bad_name place_in_class place_in_function place_of size flat tree rows_at kids kids_of early_fault late_fault fault_of fault_from first_fault told_in told_by depth_at first_deep first_made checked bit enabled async_only moved_function moved_arrow captured this_frame super_yes super_frame first_super first_access first_name first_inside arguments_yes arguments_frame dress same_as named_arguments kind_of act_of act is number_from number note closes params_of closed meet leave super_call is_direct is_met scan_inner scan_next assignment after_super arguments_decl this_decl head_n tail_n param_numbers access_row accessor accessor_decls var_first frame_top top join leaves late act_at collect build emit made steps seek allows sixes holds past_first value_of sevens eights six seven eight records within outcome sheet laid-words.le32 laid-words.bytes_of pairs_from joined first_twelve
+unfolding words seq_of utf8_from utf8 first bytes_of same_bytes same_name arguments_bytes is_arguments bad_name first_bad_name place_in_class
+    place_in_function place_of size flat tree rows_at kids kids_of early_fault late_fault fault_of fault_from first_fault told_in told_by depth_at
+    first_deep first_made checked bit enabled async_only moved_function moved_arrow captured this_frame super_yes super_frame first_super first_access
+    first_name first_inside arguments_yes arguments_frame dress same_as named_arguments kind_of act_of act is number_from number note closes params_of
+    closed meet leave super_call is_direct is_met scan_inner scan_next assignment after_super arguments_decl this_decl head_n tail_n param_numbers
+    access_row accessor accessor_decls var_first frame_top top join leaves late act_at collect build emit made steps seek allows sixes holds
+    past_first value_of sevens eights six seven eight records within outcome sheet laid-words.le32 laid-words.bytes_of pairs_from joined first_twelve
 first_twelve_held = (refl, (refl, (refl, (refl, (refl, (refl, (refl, (refl, (refl, (refl, (refl, (refl, (refl, (refl, (refl, (refl, tt))))))))))))))))
 
 pub from_thirteen_held : Held from_thirteen
-unfolding words seq_of utf8_from utf8 first bytes_of same_bytes same_name arguments_bytes is_arguments bad_name first_bad_name place_in_class place_in_function place_of size flat tree rows_at kids kids_of early_fault late_fault fault_of fault_from first_fault told_in told_by depth_at first_deep first_made checked bit enabled async_only moved_function moved_arrow captured this_frame super_yes super_frame first_super first_access first_name first_inside arguments_yes arguments_frame dress same_as named_arguments kind_of act_of act is number_from number note closes params_of closed meet leave super_call is_direct is_met scan_inner scan_next assignment after_super arguments_decl this_decl head_n tail_n param_numbers access_row accessor accessor_decls var_first frame_top top join leaves late act_at collect build emit made steps seek allows sixes holds past_first value_of sevens eights six seven eight records within outcome sheet laid-words.le32 laid-words.bytes_of pairs_from joined from_thirteen
+unfolding words seq_of utf8_from utf8 first bytes_of same_bytes same_name arguments_bytes is_arguments bad_name first_bad_name place_in_class
+    place_in_function place_of size flat tree rows_at kids kids_of early_fault late_fault fault_of fault_from first_fault told_in told_by depth_at
+    first_deep first_made checked bit enabled async_only moved_function moved_arrow captured this_frame super_yes super_frame first_super first_access
+    first_name first_inside arguments_yes arguments_frame dress same_as named_arguments kind_of act_of act is number_from number note closes params_of
+    closed meet leave super_call is_direct is_met scan_inner scan_next assignment after_super arguments_decl this_decl head_n tail_n param_numbers
+    access_row accessor accessor_decls var_first frame_top top join leaves late act_at collect build emit made steps seek allows sixes holds
+    past_first value_of sevens eights six seven eight records within outcome sheet laid-words.le32 laid-words.bytes_of pairs_from joined from_thirteen
 from_thirteen_held = (refl, (refl, (refl, (refl, (refl, (refl, (refl, (refl, (refl, (refl, (refl, (refl, (refl, (refl, (refl, (refl, (refl, (refl, (refl, (refl, (refl, (refl, (refl, (refl, (refl, (refl, (refl, tt)))))))))))))))))))))))))))
 
 pub differences_held : Held differences

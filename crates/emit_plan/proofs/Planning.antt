@@ -106,7 +106,13 @@ module _ (rows names text M : List ℕ) (v : Walk) (b sc : ℕ) (q : Spot) (i : 
         let L : ActLow v.cap (act_in p) = row_act_low N w q ws i v.cap (let r = g.row in let h = holds.rows_low in omega arith) low small (act_in p) P.does in
         record {
           inner = record {
-            range = record { bytes = g.bytes; few = g.few; nested = g.nested; range = subst (λ (x : ℕ). Range ws (rows_in rows) x p.inner.end) (sym P.from) (subst (Range ws (rows_in rows) (i + 1)) (sym P.end) (inner ws (rows_in rows) g.nested i g.row)) };
+            range = record {
+              bytes = g.bytes;
+              few = g.few;
+              nested = g.nested;
+              range = subst (λ (x : ℕ). Range ws (rows_in rows) x p.inner.end) (sym P.from) (subst (Range ws (rows_in rows) (i + 1)) (sym P.end) (inner ws
+                  (rows_in rows) g.nested i g.row));
+            };
             named = names-given;
             holds = holds;
             bound = subst (λ (x : ℕ). x ≤ 16384) (sym P.says.bind) (cond-low (anew q.slot (kind_at ws i) (number N (list_of M v) 1 (frame_in p) 0)) _ b 16384 few bound);

@@ -168,8 +168,10 @@ module _ (rows names text M : List ℕ) (v : Walk) (p : Plan) where
       unfolding build_s build is_row this_row
       called-rows u f x h S low =
           rw (m, g, h)
-          (ap (λ (t : Rows). node Member 1 0 (node Call 0 0 (node Ident 1 (number NN (list_of M v) u f x) none t) none) (cond (place_of p.spot).ctx.takes_this (node Ident 1 (number NN (list_of M v) 1 (place_of p.spot).ctx.this_at 0) none none) (node This 0 0 none none))) (rowless-topped (call u f x true) h refl)
-          ∙ ap (λ (b : ℕ). node Member 1 0 (node Call 0 0 (node Ident 1 (number NN (list_of M v) u f x) none I) none) (cond (place_of p.spot).ctx.takes_this (node Ident 1 b none none) (node This 0 0 none none))) (sym (this_number NN M v.cap v.count S (place_of p.spot).ctx.this_at low)))
+          (ap (λ (t : Rows). node Member 1 0 (node Call 0 0 (node Ident 1 (number NN (list_of M v) u f x) none t) none) (cond (place_of p.spot).ctx.takes_this (node Ident 1 (number NN (list_of M v) 1
+          (place_of p.spot).ctx.this_at 0) none none) (node This 0 0 none none))) (rowless-topped (call u f x true) h refl)
+          ∙ ap (λ (b : ℕ). node Member 1 0 (node Call 0 0 (node Ident 1 (number NN (list_of M v) u f x) none I) none) (cond (place_of p.spot).ctx.takes_this (node Ident 1 b none none) (node This 0 0 none none))) (sym
+          (this_number NN M v.cap v.count S (place_of p.spot).ctx.this_at low)))
 
       pub row-size : (k a n : ℕ) → op_of p.op ≡ row k a n → size (built rows names text M v p none) ≡ 1 + size T
       row-size k a n h = ap size (row-rows k a n h) ∙ size-one k a n T

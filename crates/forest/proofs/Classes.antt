@@ -100,7 +100,8 @@ module _ (ws : List ℕ) (names : ℕ) where
   pub fault-none : (place : ℕ) (ends : Bool) (i : ℕ) → bad_at ws names place ends i ≡ not (eqb (fault_of ws names place ends i) 0)
   unfolding fault_of early_fault late_fault
   fault-none place ends i =
-      ap not (sym (six (kind_ok (kind_at ws i)) (attr_ok (kind_at ws i) (attr_at ws i) place) ends (fits place (kind_at ws i)) (count_ok (kind_at ws i) (attr_at ws i) (length (kids_of ws i))) (name_ok (kind_at ws i) (attr_at ws i) (name_at ws i) names)))
+      ap not (sym (six (kind_ok (kind_at ws i)) (attr_ok (kind_at ws i) (attr_at ws i) place) ends (fits place (kind_at ws i)) (count_ok (kind_at ws i) (attr_at ws i) (length (kids_of ws i))) (name_ok (kind_at ws i)
+      (attr_at ws i) (name_at ws i) names)))
 
   fault-small : (place : ℕ) (ends : Bool) (i : ℕ) → fault_of ws names place ends i ≤ 5
   unfolding fault_of early_fault late_fault

@@ -102,7 +102,8 @@ module _ (ws : List ℕ) (n names : ℕ) (long : 4 * n ≤ length ws) where
       let inside : Clean c (c + 1) f i = cleaned i c (c + 1) 0 f (omega arith) (omega arith) (omega arith) (omega arith) F.fi wfi (λ q x y. absurd (omega arith)) (says_first ws n names c f (omega arith)) in
       let after : Clean p (end_at ws c) f s = cleaned s p (end_at ws c) (pos + 1) f (omega arith) (omega arith) en (omega arith) F.fs wf.1.1
       (before_next ws p c before past inside.within) (tells_next ws (marks ws) (top_mark (end_at ws 0) n) p c pos f says ce g) in
-      let row : row_ok names place (kind_at ws c) (attr_at ws c) (name_at ws c) (length (kids ws (end_at ws c) (c + 1) (end_at ws c))) ≡ true = row_same names place (kind_at ws c) k (attr_at ws c) a (name_at ws c) nm (length (kids ws (end_at ws c) (c + 1) (end_at ws c))) (count i) F.fk F.fa F.fn (ap length kf ∙ sym inside.many) wf.0 in
+      let row : row_ok names place (kind_at ws c) (attr_at ws c) (name_at ws c) (length (kids ws (end_at ws c) (c + 1) (end_at ws c))) ≡ true = row_same names place (kind_at ws c) k (attr_at ws c) a (name_at ws c) nm
+      (length (kids ws (end_at ws c) (c + 1) (end_at ws c))) (count i) F.fk F.fa F.fn (ap length kf ∙ sym inside.many) wf.0 in
       let here : fault_at ws n names c ≡ 0 =
       fault-by ws n names c place (end_good ws c (end_at ws p)) (place-small (kind_at ws p) (attr_at ws p) pos) (told_child ws (marks ws) (top_mark (end_at ws 0) n) p c pos f pc ce before says) (λ g. omega arith)
       ∙ ap (λ (b : Bool). fault_of ws names place b c) g ∙ good_row ws names place c row in
@@ -141,7 +142,8 @@ module _ (names k a nm : ℕ) (i : Rows) (t : Table names (node k a nm i none)) 
   unfolding kids_of told_by
   first0 =
       let e : end_at ws 0 ≡ 0 + 1 + size i = root.fe in
-      let row : row_ok names top_place (kind_at ws 0) (attr_at ws 0) (name_at ws 0) (length (kids ws (end_at ws 0) 1 (end_at ws 0))) ≡ true = row_same names top_place (kind_at ws 0) k (attr_at ws 0) a (name_at ws 0) nm (length (kids ws (end_at ws 0) 1 (end_at ws 0))) (count i) root.fk root.fa root.fn
+      let row : row_ok names top_place (kind_at ws 0) (attr_at ws 0) (name_at ws 0) (length (kids ws (end_at ws 0) 1 (end_at ws 0))) ≡ true = row_same names top_place (kind_at ws 0) k (attr_at ws 0) a (name_at ws 0) nm
+      (length (kids ws (end_at ws 0) 1 (end_at ws 0))) (count i) root.fk root.fa root.fn
       (ap length (kids-fuel ws (end_at ws 0) n 1 (end_at ws 0) (omega arith) (omega arith)) ∙ sym clean0.many) t.0 in
       fault-by ws n names 0 top_place (eqb (end_at ws 0) n) (lit< tt) refl (λ g. omega arith)
       ∙ ap (λ (b : Bool). fault_of ws names top_place b 0) (eq-eqb (end_at ws 0) n (omega arith)) ∙ good_row ws names top_place 0 row

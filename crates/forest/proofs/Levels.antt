@@ -49,8 +49,14 @@ within_of : (most v k a pos : ℕ) (f : Rows) → Under most (down level v k a p
 unfolding down
 within_of most v k a pos none h = tt
 within_of most v k a pos (node k' a' n' i s) h =
-    let rest = under_tail most (v + 1) (down level (v + 1) k' a' 0 i ++ down level v k a (pos + 1) s) h in
-    (h 0 (omega arith), (within_of most (v + 1) k' a' 0 i (under_left most (down level (v + 1) k' a' 0 i) (down level v k a (pos + 1) s) rest), within_of most v k a (pos + 1) s (under-right most (down level (v + 1) k' a' 0 i) (down level v k a (pos + 1) s) rest)))
+    let rest = under_tail most (v + 1) (down level (v + 1) k' a' 0 i ++ down level v k a (pos + 1) s) h in (
+      h 0 (omega arith),
+      (
+        within_of most (v + 1) k' a' 0 i (under_left most (down level (v + 1) k' a' 0 i) (down level v k a (pos + 1) s) rest),
+        within_of most v k a (pos + 1) s (under-right most (down level
+            (v + 1) k' a' 0 i) (down level v k a (pos + 1) s) rest),
+      ),
+    )
 
 of_within : (most v k a pos : ℕ) (f : Rows) → DepthWithin most (v + 1) f → Under most (down level v k a pos f)
 unfolding down

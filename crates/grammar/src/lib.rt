@@ -70,6 +70,7 @@ fn constructor_ok(a: usize, place: u8) -> bool
 }
 
 // The last attr of a kind but Function and Class; the kind's attrs are the numbers up to it.
+#[tactic(auto, unfolding(crate::specs::Masks::last_attr))]
 fn last_attr(k: usize) -> usize
     ensures { result ≡ last_attr k }
 {
@@ -113,6 +114,7 @@ pub fn attr_ok(k: usize, a: usize, place: u8) -> bool
 }
 
 // The kinds that may stand in a place, as a set: bit k is 1 where kind k is in it.
+#[tactic(auto, unfolding(crate::specs::Masks::bits_from, crate::specs::Masks::set_of))]
 fn kinds_in(place: u8) -> usize
     ensures { result ≡ set_of (fits place) }
 {
@@ -146,6 +148,7 @@ pub fn fits_in(place: u8, k: usize) -> bool
 
 // The kinds whose rows may have so many children where attr is 0, as a set: bit k is 1 where kind k
 // is in it.
+#[tactic(auto, unfolding(crate::specs::Masks::bits_from, crate::specs::Masks::set_of))]
 fn kinds_of(count: usize) -> usize
     ensures { result ≡ set_of (λ k. count_ok k 0 count) }
 {
@@ -206,6 +209,7 @@ pub fn name_ok(k: usize, a: usize, name: usize, names: usize) -> bool
 }
 
 // The place of the first child under a row of kind k whose attr is 0,
+#[tactic(auto, unfolding(crate::specs::Grammar::place_of, crate::specs::Grammar::place_in_function, crate::specs::Grammar::place_in_class))]
 fn first_in(k: usize) -> u8
     ensures { result ≡ place_of k 0 0 }
 {
@@ -239,6 +243,7 @@ fn first_in(k: usize) -> u8
 }
 
 // and of a later one.
+#[tactic(auto, unfolding(crate::specs::Grammar::place_of, crate::specs::Grammar::place_in_function, crate::specs::Grammar::place_in_class))]
 fn later_in(k: usize) -> u8
     ensures { result ≡ place_of k 0 1 }
 {

@@ -165,6 +165,7 @@ fn scan_row(sc: usize, met: bool, first: bool, kind: usize, attr: usize) -> usiz
 }
 
 // The state of a row's children: "has its arguments visited"; "its arguments not visited".
+#[tactic(auto, unfolding(crate::specs::View::op_of, steps::specs::Fused::scan_of))]
 fn scan_of(sc: usize, met: bool, first: bool, op: Becomes) -> usize
     ensures { result ≡ scan_of sc met first (op_of op) }
 {

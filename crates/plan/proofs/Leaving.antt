@@ -90,7 +90,8 @@ module _ (ws : List ℕ) (n : ℕ) (good : Nested ws n) where
         → r ≡ leaves_c N w one more (i + 1) (rows_at ws (i + 1) x) → inside ≡ r
     children-say h r one more x f g y z =
         ap (λ (b : Bool). not b && leaves_c N w (into w q act_here.one) (into w q act_here.more) (i + 1) (children ws i)) (ne_eqb (kind_at ws i) Function h)
-        ∙ sym (z ∙ ap (λ (s : Spot). leaves_c N w s more (i + 1) (rows_at ws (i + 1) x)) f ∙ ap (λ (s : Spot). leaves_c N w (into w q act_here.one) s (i + 1) (rows_at ws (i + 1) x)) g ∙ ap (λ (m : ℕ). leaves_c N w (into w q act_here.one) (into w q act_here.more) (i + 1) (rows_at ws (i + 1) m)) y)
+        ∙ sym (z ∙ ap (λ (s : Spot). leaves_c N w s more (i + 1) (rows_at ws (i + 1) x)) f ∙ ap (λ (s : Spot). leaves_c N w (into w q act_here.one) s (i + 1) (rows_at ws (i + 1) x)) g ∙ ap (λ (m : ℕ). leaves_c N w
+        (into w q act_here.one) (into w q act_here.more) (i + 1) (rows_at ws (i + 1) m)) y)
 
   pub leaves_none : (N : Names) (w : Switches) (q q' : Spot) (i e : ℕ) → e ≤ i → false ≡ leaves_c N w q q' i (rows_at ws i e)
   unfolding leaves_c

@@ -88,10 +88,21 @@ named_of false true false a h = absurd (let z : ◌≡◌ {A = ℕ} 0 1 = cc in 
 named_of false false q a h = absurd (let z : ◌≡◌ {A = ℕ} 0 1 = cc in omega arith)
 named_of true p q a h = absurd (let z : ◌≡◌ {A = ℕ} 0 1 = cc in omega arith)
 
+-- the rule of a name, at a kind, by whether the row is one of a result, the name is not 0, and it is none past the names
+abbrev rule : (kind name : ℕ) (m p q : Bool) → Bool
+rule kind name m p q =
+    m || (names_one kind && p && q) || ((eqb kind Function || eqb kind Class) && q) || (eqb kind Other || eqb kind Opaque)
+    || (not (names_one kind) && not (eqb kind Function) && not (eqb kind Class) && eqb name 0)
+
 pub named_in_range : (k a name names : ℕ) → name_ok k a name names ≡ true → made_row k a ≡ false → names_one k ≡ true → (0 < name) × (name ≤ names)
-named_in_range k a name names ok made one = ⊎_elim (λ h. ⊎_elim (λ e. at Declarator (λ m p q. refl) (eqb-true k Declarator e)) (λ e. at Ident (λ m p q. refl) (eqb-true k Ident e)) (or_cases (eqb k Declarator) _ h)) (λ e. at Member (λ m p q. refl) (eqb-true k Member e)) (or_cases (eqb k Declarator || eqb k Ident) _ one)
+named_in_range k a name names ok made one =
+    ⊎_elim
+    (λ h. ⊎_elim (λ e. at Declarator (λ m p q. refl) (eqb-true k Declarator e)) (λ e. at Ident (λ m p q. refl) (eqb-true k Ident e)) (or_cases (eqb k Declarator) _ h))
+    (λ e. at Member (λ m p q. refl) (eqb-true k Member e))
+    (or_cases (eqb k Declarator || eqb k Ident) _ one)
   where
-    at : (c : ℕ) → ((m p q : Bool) → (m || (names_one c && p && q) || ((eqb c Function || eqb c Class) && q) || (eqb c Other || eqb c Opaque) || (not (names_one c) && not (eqb c Function) && not (eqb c Class) && eqb name 0)) ≡ (m || (p && q) || false || false || false)) → k ≡ c → (0 < name) × (name ≤ names)
+    at : (c : ℕ) → ((m p q : Bool) → rule c name m p q ≡ (m || (p && q) || false || false || false)) → k ≡ c → (0 < name) × (name ≤ names)
     at c same q =
-        let r = named_of (made_row k a) (ltb 0 name) (leb name names) made (sym (same (made_row k a) (ltb 0 name) (leb name names)) ∙ subst (λ (x : ℕ). (made_row k a || (names_one x && ltb 0 name && leb name names) || ((eqb x Function || eqb x Class) && leb name names) || (eqb x Other || eqb x Opaque) || (not (names_one x) && not (eqb x Function) && not (eqb x Class) && eqb name 0)) ≡ true) q ok) in
+        let here : rule c name (made_row k a) (ltb 0 name) (leb name names) ≡ true = subst (λ (x : ℕ). rule x name (made_row k a) (ltb 0 name) (leb name names) ≡ true) q ok in
+        let r = named_of (made_row k a) (ltb 0 name) (leb name names) made (sym (same (made_row k a) (ltb 0 name) (leb name names)) ∙ here) in
         (ltb-true 0 name r.0, leb-true name names r.1)

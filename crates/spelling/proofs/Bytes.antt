@@ -89,6 +89,17 @@ its_bytes names text k a b n h qa qn qb =
     let d : b - a ≡ n = omega arith in
     rw (d, qa, qn, ne_eqb k 0 (λ z. omega (arith, s.0)))
 
+-- and where b is the code's word for it that k is a name's number
+module _ (names : List ℕ) (k : ℕ) {b : Bool} (p : b ≡ is_name names k) (q : b ≡ true) where
+  pub some_by : (0 < k) × (k ≤ names_in names)
+  some_by = is_some names k (sym p ∙ q)
+
+  pub good_by : {text : List ℕ} → GivenNames names text → GoodName names text k
+  good_by {text} g = good g (sym p ∙ q)
+
+  pub bytes_by : {a n : ℕ} (text : List ℕ) → a ≡ start_of names k → n ≡ length_of names k → take (a + n - a) (drop a text) ≡ bytes_of names text k
+  bytes_by {a} {n} text qa qn = its_bytes names text k a (a + n) n (sym p ∙ q) qa qn refl
+
 has-bytes : (names text : List ℕ) (k : ℕ) → GivenNames names text → is_name names k ≡ true → 0 < length (bytes_of names text k)
 unfolding bytes_of
 has-bytes names text k g h =

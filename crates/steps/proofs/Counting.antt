@@ -44,7 +44,8 @@ dress_arrows t c sl k a n I s = go (eqb sl wrapped)
     go true = rw sum (simp (add-zero, append-nil, append_assoc))
     go false = refl
 
-pub dress-reads : (md : ℕ → Bool) (w v c sl k a n : ℕ) (I s : Rows) → reads md w v c (dress sl (node k a n I) s) ≡ here md w k a n ++ (cond (omitted md k a n I) [] (reads md (own_one k a w c) (own_more k a w c) (c + ranked k) I) ++ reads md v v (c + ranked k + count I) s)
+pub dress-reads : (md : ℕ → Bool) (w v c sl k a n : ℕ) (I s : Rows) → reads md w v c (dress sl (node k a n I) s) ≡ here md w k a n ++ (cond (omitted md k a n I) [] (reads md (own_one k a w c) (own_more k a w c)
+    (c + ranked k) I) ++ reads md v v (c + ranked k + count I) s)
 unfolding dress reads count ranked here omitted own_one own_more
 dress-reads md w v c sl k a n I s = go (eqb sl wrapped)
   where

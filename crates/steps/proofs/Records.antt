@@ -219,7 +219,14 @@ module _ (N : Names) (w : Switches) (l : Bool) (c : Ctx) (sl o k a n : ℕ) (i :
       let got : Op = Op.call 3 c.super_at n (eqb sl callee) in
       pick (Sane M o) (reads? c sl i) (cond (eqb sl dropped) drop got) (row k a n) (pick (Sane M o) (eqb sl dropped) drop got tt (omega arith, omega arith, h.super, e, λ t. refl)) tt
   op_sane M h z Kind.call e = tt
-  op_sane M h z assign e = pick_if (Sane M o) (sets? c i) (Op.call 4 c.super_at (first_name (first_inside i)) false) (row k a n) (λ y. (omega arith, omega arith, h.super, first-name M _ (first-inside M i z) (and_second c.takes_super _ y), λ t. absurd (false≢true t))) tt
+  op_sane M h z assign e = pick_if (Sane M o) (sets? c i) (Op.call 4 c.super_at (first_name (first_inside i)) false) (row k a n) (λ y. (
+    omega arith,
+    omega arith,
+    h.super,
+    first-name M _ (first-inside M i z)
+        (and_second c.takes_super _ y),
+    λ t. absurd (false≢true t),
+  )) tt
   op_sane M h z arrow e = pick (Sane M o) (to_function? w a) (row 17 0 0) (row k a n) tt tt
   op_sane M h z function e = tt
   op_sane M h z keyed e = tt

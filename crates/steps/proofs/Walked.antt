@@ -31,12 +31,72 @@ use Rattle.steps.specs.Plots.{starred}
 use Rattle.steps.specs.Pins.{pins}
 use Rattle.steps.specs.Tables.{Held}
 
+-- both lists of plots, computed at once
+computed : (Held starred) × (Held pins)
+unfolding words seq_of utf8_from utf8 first bytes_of same_bytes same_name arguments_bytes is_arguments bad_name first_bad_name place_in_class
+    place_in_function place_of size flat tree rows_at kids kids_of early_fault late_fault fault_of fault_from first_fault told_in told_by depth_at
+    first_deep first_made checked bit enabled async_only moved_function moved_arrow captured this_frame super_yes super_frame first_super first_access
+    first_name first_inside arguments_yes arguments_frame dress same_as named_arguments kind_of act_of act is number_from number note closes params_of
+    closed meet leave super_call is_direct is_met scan_inner scan_next assignment after_super arguments_decl this_decl head_n tail_n param_numbers
+    access_row accessor accessor_decls var_first frame_top top join leaves late act_at collect build emit made steps seek allows sixes holds
+    past_first value_of sevens eights six seven eight records within outcome sheet laid-words.le32 laid-words.bytes_of pairs_from joined starred pins
+computed = (
+  (refl, (refl, (refl, (refl, (refl, (refl, (refl, (refl, (refl, (refl, (refl, tt))))))))))),
+  (
+    refl,
+    (
+      refl,
+      (
+        refl,
+        (
+          refl,
+          (
+            refl,
+            (
+              refl,
+              (
+                refl,
+                (
+                  refl,
+                  (
+                    refl,
+                    (
+                      refl,
+                      (
+                        refl,
+                        (
+                          refl,
+                          (
+                            refl,
+                            (
+                              refl,
+                              (
+                                refl,
+                                (
+                                  refl,
+                                  (refl, (refl, (refl, tt))),
+                                ),
+                              ),
+                            ),
+                          ),
+                        ),
+                      ),
+                    ),
+                  ),
+                ),
+              ),
+            ),
+          ),
+        ),
+      ),
+    ),
+  ),
+)
+
 -- the ten starred plots, by one statement over their list
 pub starred_held : Held starred
-unfolding words seq_of utf8_from utf8 first bytes_of same_bytes same_name arguments_bytes is_arguments bad_name first_bad_name place_in_class place_in_function place_of size flat tree rows_at kids kids_of early_fault late_fault fault_of fault_from first_fault told_in told_by depth_at first_deep first_made checked bit enabled async_only moved_function moved_arrow captured this_frame super_yes super_frame first_super first_access first_name first_inside arguments_yes arguments_frame dress same_as named_arguments kind_of act_of act is number_from number note closes params_of closed meet leave super_call is_direct is_met scan_inner scan_next assignment after_super arguments_decl this_decl head_n tail_n param_numbers access_row accessor accessor_decls var_first frame_top top join leaves late act_at collect build emit made steps seek allows sixes holds past_first value_of sevens eights six seven eight records within outcome sheet laid-words.le32 laid-words.bytes_of pairs_from joined starred pins
-starred_held = (refl, (refl, (refl, (refl, (refl, (refl, (refl, (refl, (refl, (refl, (refl, tt)))))))))))
+starred_held = computed.0
 
 -- the mistakes that the request shuts out, and what the plots do not catch
 pub pins_held : Held pins
-unfolding words seq_of utf8_from utf8 first bytes_of same_bytes same_name arguments_bytes is_arguments bad_name first_bad_name place_in_class place_in_function place_of size flat tree rows_at kids kids_of early_fault late_fault fault_of fault_from first_fault told_in told_by depth_at first_deep first_made checked bit enabled async_only moved_function moved_arrow captured this_frame super_yes super_frame first_super first_access first_name first_inside arguments_yes arguments_frame dress same_as named_arguments kind_of act_of act is number_from number note closes params_of closed meet leave super_call is_direct is_met scan_inner scan_next assignment after_super arguments_decl this_decl head_n tail_n param_numbers access_row accessor accessor_decls var_first frame_top top join leaves late act_at collect build emit made steps seek allows sixes holds past_first value_of sevens eights six seven eight records within outcome sheet laid-words.le32 laid-words.bytes_of pairs_from joined starred pins
-pins_held = (refl, (refl, (refl, (refl, (refl, (refl, (refl, (refl, (refl, (refl, (refl, (refl, (refl, (refl, (refl, (refl, (refl, (refl, (refl, tt)))))))))))))))))))
+pins_held = computed.1

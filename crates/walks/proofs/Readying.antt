@@ -128,7 +128,8 @@ counted-room room {f} {total} d = let q : total ≡ size f = omega (arith, d.nex
 
 -- what the first walk leaves to the second
 pub collected : {s : Lent} {rows names text made M : List ℕ} {cap count : ℕ} → Ready (switches_of s) rows names text made cap
-    → Kept M cap (made_c (names_of names text) (switches_of s) (table rows)) count → Filed names text (behind cap M) cap (made_c (names_of names text) (switches_of s) (table rows)) → Collected rows names text M (record { switches = s; cap = cap; count = count })
+    → Kept M cap (made_c (names_of names text) (switches_of s) (table rows)) count → Filed names text (behind cap M) cap (made_c (names_of names text) (switches_of s) (table rows)) → Collected rows names text M
+    (record { switches = s; cap = cap; count = count })
 collected S K F = record { accepted = S.accepted; on = S.on; kept = K; filed = F; low = S.low; fits = S.fits }
 
 -- the array M with the bindings of the first walk, and what the second walk then writes
@@ -161,7 +162,11 @@ module _ (rows names text M : List ℕ) (v : Walk) (C : Collected rows names tex
   pub walk_asks : (Ranged rows 0 (rows_in rows) × GivenNames names text) × (Holds names text M v (rows_in rows) × (size made-rows < 2 ^ 32))
   walk_asks = (
     (given-range w rows names text C.accepted, given-names w rows names text C.accepted),
-    (record { store = C.kept.store; filed = subst (Filed names text (behind v.cap M) v.cap) (sym C.kept.list) C.filed; cap_low = C.low; rows_low = C.fits }, subst (λ (t : Rows). size t < 2 ^ 32) rows_made (result_small 16384 128 w rows names text C.accepted)),
+    (
+      record { store = C.kept.store; filed = subst (Filed names text (behind v.cap M) v.cap) (sym C.kept.list) C.filed; cap_low = C.low; rows_low = C.fits },
+      subst (λ (t : Rows). size t < 2 ^ 32) rows_made
+          (result_small 16384 128 w rows names text C.accepted),
+    ),
   )
 
   module _ (out_rows out_bindings : List ℕ) where

@@ -26,4 +26,5 @@ first_kind-three-requires c = next _ _ _ _ (next _ _ _ _ c.requires c.end_at.ens
 
 pub returns : goal.returns
 returns c =
-    firsts-two (parent _ _ _ _ c.requires c.end_at.ensures.0 c.if-end_at-child.false) (parent _ _ _ _ (next _ _ _ _ c.requires c.end_at.ensures.0 c.if-end_at-child.false) c.end_at-2.ensures.0 c.if-end_at-inner.false) c.kind_at-one.ensures.0 c.kind_at-two.ensures.0 c.name_at-name.ensures.0 c.name_at-name.ensures.1 c.first_kind-three.ensures
+    firsts-two (parent _ _ _ _ c.requires c.end_at.ensures.0 c.if-end_at-child.false) (parent _ _ _ _ (next _ _ _ _ c.requires c.end_at.ensures.0 c.if-end_at-child.false) c.end_at-2.ensures.0 c.if-end_at-inner.false)
+    c.kind_at-one.ensures.0 c.kind_at-two.ensures.0 c.name_at-name.ensures.0 c.name_at-name.ensures.1 c.first_kind-three.ensures

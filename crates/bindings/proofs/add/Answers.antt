@@ -13,19 +13,25 @@ use Rattle.bindings.proofs.Filing.{pushed-behind, chained-behind}
 use Rattle.bindings.proofs.add.Goals as goal
 
 pub chain-requires : goal.chain-requires
-chain-requires c = let R = c.requires.room in
-    let long = ap length c.push.ensures ∙ pushed_long c.args.made.now c.args.cap (c.args.count + 1) c.args.u c.args.x c.args.f R.store.long R.more in
+chain-requires c =
+    let a = c.args in
+    let R = c.requires.room in
+    let long = ap length c.push.ensures ∙ pushed_long a.made.now a.cap (a.count + 1) a.u a.x a.f R.store.long R.more in
     record {
       made_len = (long, (R.more, (R.row_low, R.cap_low)));
-      f_bound = subst (λ (l : List ℕ). get_or l (last_table c.args.param c.args.cap c.args.f) 0 < c.args.cap) (sym c.push.ensures) (add_low c.args.made.now c.args.cap c.args.count c.args.u c.args.x c.args.f c.requires.room.store c.requires.room.more c.requires.room.row_low c.args.param c.requires.u_value);
+      f_bound = subst (λ (l : List ℕ). get_or l (last_table a.param a.cap a.f) 0 < a.cap) (sym c.push.ensures) (add_low a.made.now a.cap a.count a.u a.x a.f c.requires.room.store c.requires.room.more
+          c.requires.room.row_low a.param c.requires.u_value);
     }
 
 pub returns : goal.returns
-returns c = record {
-  kept = subst (λ (l : List ℕ). Kept l c.args.cap (binds c.args.made.now c.args.cap c.args.count ++ (bind c.args.u c.args.x c.args.f ∷ [])) (c.args.count + 1))
-      (sym (c.chain.ensures ∙ ap (λ (l : List ℕ). chained l c.args.cap c.args.param c.args.f (c.args.count + 1)) c.push.ensures)) (added c.args.made.now c.args.cap c.args.count c.args.u c.args.x c.args.f c.requires.room.store c.requires.room.more c.requires.room.row_low c.args.param c.requires.u_value);
-  value = refl;
-  made_unchanged = ap (behind c.args.cap) (c.chain.ensures ∙ ap (λ (l : List ℕ). chained l c.args.cap c.args.param c.args.f (c.args.count + 1)) c.push.ensures)
-      ∙ chained-behind (pushed c.args.made.now c.args.cap (c.args.count + 1) c.args.u c.args.x c.args.f) c.args.cap c.args.param c.args.f (c.args.count + 1) c.requires.room.row_low (add_low c.args.made.now c.args.cap c.args.count c.args.u c.args.x c.args.f c.requires.room.store c.requires.room.more c.requires.room.row_low c.args.param c.requires.u_value)
-      ∙ pushed-behind c.args.made.now c.args.cap (c.args.count + 1) c.args.u c.args.x c.args.f c.requires.room.more;
-}
+returns c =
+    let a = c.args in
+    record {
+      kept = subst (λ (l : List ℕ). Kept l a.cap (binds a.made.now a.cap a.count ++ (bind a.u a.x a.f ∷ [])) (a.count + 1))
+          (sym (c.chain.ensures ∙ ap (λ (l : List ℕ). chained l a.cap a.param a.f (a.count + 1)) c.push.ensures)) (added a.made.now a.cap a.count a.u a.x a.f c.requires.room.store c.requires.room.more c.requires.room.row_low a.param c.requires.u_value);
+      value = refl;
+      made_unchanged = ap (behind a.cap) (c.chain.ensures ∙ ap (λ (l : List ℕ). chained l a.cap a.param a.f (a.count + 1)) c.push.ensures)
+          ∙ chained-behind (pushed a.made.now a.cap (a.count + 1) a.u a.x a.f) a.cap a.param a.f (a.count + 1) c.requires.room.row_low
+          (add_low a.made.now a.cap a.count a.u a.x a.f c.requires.room.store c.requires.room.more c.requires.room.row_low a.param c.requires.u_value)
+          ∙ pushed-behind a.made.now a.cap (a.count + 1) a.u a.x a.f c.requires.room.more;
+    }

@@ -17,7 +17,8 @@ abbrev pub decreases-collect_row : goal.decreases-collect_row
 decreases-collect_row l = 2 * (l.stop - (l.i + 1)) + 1
 
 abbrev pub invariant-collect-loop-i : goal.invariant-collect-loop-i
-invariant-collect-loop-i l = Walking (names_of l.names l.text) (switches_of l.switches) (words l.rows) (rows_in l.rows) (place_of l.more) (collect_c (names_of l.names l.text) (switches_of l.switches) (place_of l.initial.q) (place_of l.more) l.from (rows_at (words l.rows) l.from l.end) (binds l.initial.made l.cap l.count)) l.from l.end l.cap l.made l.i (place_of l.q) l.kept
+invariant-collect-loop-i l = Walking (names_of l.names l.text) (switches_of l.switches) (words l.rows) (rows_in l.rows) (place_of l.more) (collect_c (names_of l.names l.text) (switches_of l.switches)
+    (place_of l.initial.q) (place_of l.more) l.from (rows_at (words l.rows) l.from l.end) (binds l.initial.made l.cap l.count)) l.from l.end l.cap l.made l.i (place_of l.q) l.kept
 
 abbrev pub decreases-collect-loop-i : goal.decreases-collect-loop-i
 decreases-collect-loop-i l = l.end - l.i

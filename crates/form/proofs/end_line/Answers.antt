@@ -36,7 +36,8 @@ pub returns-then-is_wanted : goal.returns-then-is_wanted
 returns-then-is_wanted c =
     let f = c.args.form in
     let l = take f.count c.args.front.now in
-    ended _ _ _ c.standing-then-is_wanted.ensures (ends-wanted f.part f.line f.rows l c.if-part-eq0.false c.if-part-eq5.false (sym c.if-is_wanted.true ∙ c.is_wanted.ensures)) (omega (arith, c.requires.0.few, ne_lt f.part c.requires.0.few c.if-part-eq5.false)) (omega arith)
+    ended _ _ _ c.standing-then-is_wanted.ensures (ends-wanted f.part f.line f.rows l c.if-part-eq0.false c.if-part-eq5.false (sym c.if-is_wanted.true ∙ c.is_wanted.ensures)) (omega
+    (arith, c.requires.0.few, ne_lt f.part c.requires.0.few c.if-part-eq5.false)) (omega arith)
 
 pub returns-then-part-eq4 : goal.returns-then-part-eq4
 returns-then-part-eq4 c =

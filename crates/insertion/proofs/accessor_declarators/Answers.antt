@@ -44,14 +44,16 @@ overflow_cast-p c = let H = c.requires.held in let l = H.store.long in let fl = 
 
 pub overflow_cast-v : goal.overflow_cast-v
 overflow_cast-v c =
-    let H = c.requires.held in let l = H.store.long in let fl = H.frame_low in let cl = H.cap_low in let k = going-value c.requires.held c.loop-b.invariant c.loop-b-test.true c.word-usage.ensures c.word-property.ensures c.after-v.ensures in omega arith
+    let H = c.requires.held in let l = H.store.long in let fl = H.frame_low in let cl = H.cap_low in let k = going-value c.requires.held c.loop-b.invariant c.loop-b-test.true c.word-usage.ensures c.word-property.ensures
+    c.after-v.ensures in omega arith
 
 pub accessor_declarator-w-requires : goal.accessor_declarator-w-requires
 accessor_declarator-w-requires c = going-room c.requires.held c.loop-b.invariant c.loop-b-test.true c.word-usage.ensures c.word-property.ensures c.after-v.ensures c.requires.none_bound
 
 pub after-p-requires : goal.after-p-requires
 after-p-requires c =
-    let H = c.requires.held in let l = H.store.long in let fl = H.frame_low in let cl = H.cap_low in let k = going-value c.requires.held c.loop-b.invariant c.loop-b-test.true c.word-usage.ensures c.word-property.ensures c.after-v.ensures in (l, (k, cl))
+    let H = c.requires.held in let l = H.store.long in let fl = H.frame_low in let cl = H.cap_low in let k = going-value c.requires.held c.loop-b.invariant c.loop-b-test.true c.word-usage.ensures c.word-property.ensures
+    c.after-v.ensures in (l, (k, cl))
 
 pub overflow_mul-cap-in-loop-b : goal.overflow_mul-cap-in-loop-b
 overflow_mul-cap-in-loop-b c = let H = c.requires.held in let l = H.store.long in let fl = H.frame_low in let cl = H.cap_low in let k = going-low H c.loop-b.invariant in omega arith

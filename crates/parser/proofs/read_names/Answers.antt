@@ -22,7 +22,8 @@ loop-p-smaller c = omega (arith, next_ahead c.args.s.now _ _ _ c.find-e.ensures 
 
 pub loop-p-preserved : goal.loop-p-preserved
 loop-p-preserved c =
-    naming-next _ _ _ _ _ _ _ _ _ c.loop-p.invariant _ _ c.find-e.ensures c.loop-p-test.true c.next_line-q.ensures _ _ _ (sym c.if-is_row_header.false ∙ c.is_row_header.ensures) c.put_pair.ensures c.put_pair.auto.out c.put_part-t.ensures c.put_part-t.auto.text
+    naming-next _ _ _ _ _ _ _ _ _ c.loop-p.invariant _ _ c.find-e.ensures c.loop-p-test.true c.next_line-q.ensures _ _ _ (sym c.if-is_row_header.false ∙ c.is_row_header.ensures) c.put_pair.ensures c.put_pair.auto.out
+    c.put_part-t.ensures c.put_part-t.auto.text
 
 pub shape_of-pairs : goal.shape_of-pairs
 shape_of-pairs c = c.loop-p.invariant.long

@@ -25,7 +25,8 @@ loop-p-smaller c = omega (arith, next_ahead c.args.s.now _ _ _ c.find-e.ensures 
 
 pub loop-p-preserved : goal.loop-p-preserved
 loop-p-preserved c =
-    turn-next _ _ _ _ _ _ _ c.loop-p.invariant _ _ (line-next _ _ _ _ c.find-e.ensures c.loop-p-test.true c.next_line-p.ensures) _ _ _ _ _ _ refl c.next_line-p.ensures.inside (sym c.row_at-row.ensures ∙ c.in-Words.is) c.if-n-ge-MOST_ROWS.false c.put_row.ensures c.put_row.auto.out
+    turn-next _ _ _ _ _ _ _ c.loop-p.invariant _ _ (line-next _ _ _ _ c.find-e.ensures c.loop-p-test.true c.next_line-p.ensures) _ _ _ _ _ _ refl c.next_line-p.ensures.inside
+    (sym c.row_at-row.ensures ∙ c.in-Words.is) c.if-n-ge-MOST_ROWS.false c.put_row.ensures c.put_row.auto.out
 
 pub shape_of-rows : goal.shape_of-rows
 shape_of-rows c = c.loop-p.invariant.long

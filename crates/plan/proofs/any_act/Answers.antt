@@ -12,12 +12,19 @@ use Rattle.plan.proofs.any_act.Goals as goal
 pub hand_on-requires : goal.hand_on-requires
 unfolding named_arguments
 hand_on-requires c =
-    placeable (names_of c.args.names.now c.args.text.now) (switches_of c.args.switches) c.args.late (context_of c.spot-spot.result.context) c.spot-spot.result.slot c.args.i c.args.row.kind c.args.row.attr c.args.row.name (children (words c.args.rows.now) c.args.i)
-    (c.decide.ensures (names_of c.args.names.now c.args.text.now) (children (words c.args.rows.now) c.args.i) c.look-below.ensures c.named_arguments-arguments.ensures) (let r = c.requires.at.row in let f = c.requires.at.few in omega arith) c.spot-spot.ensures.frames_below
+    let a = c.args in
+    let ns = names_of a.names.now a.text.now in
+    let ws = words a.rows.now in
+    placeable ns (switches_of a.switches) a.late (context_of c.spot-spot.result.context) c.spot-spot.result.slot a.i a.row.kind a.row.attr a.row.name (children ws a.i)
+    (c.decide.ensures ns (children ws a.i) c.look-below.ensures c.named_arguments-arguments.ensures) (let r = c.requires.at.row in let f = c.requires.at.few in omega arith) c.spot-spot.ensures.frames_below
 
 pub returns : goal.returns
 unfolding named_arguments
 returns c =
-    takes_at (names_of c.args.names.now c.args.text.now) (switches_of c.args.switches) c.args.late c.args.i c.args.row.kind c.args.row.attr c.args.row.name (children (words c.args.rows.now) c.args.i) c.spot-spot.ensures.result_value
-    (handed (names_of c.args.names.now c.args.text.now) (switches_of c.args.switches) c.args.late (context_of c.spot-spot.result.context) c.spot-spot.result.slot c.args.i c.args.row.kind c.args.row.attr c.args.row.name (children (words c.args.rows.now) c.args.i)
-    (c.decide.ensures (names_of c.args.names.now c.args.text.now) (children (words c.args.rows.now) c.args.i) c.look-below.ensures c.named_arguments-arguments.ensures) c.hand_on.ensures)
+    let a = c.args in
+    let w = switches_of a.switches in
+    let ns = names_of a.names.now a.text.now in
+    let ws = words a.rows.now in
+    takes_at ns w a.late a.i a.row.kind a.row.attr a.row.name (children ws a.i) c.spot-spot.ensures.result_value
+    (handed ns w a.late (context_of c.spot-spot.result.context) c.spot-spot.result.slot a.i a.row.kind a.row.attr a.row.name (children ws a.i)
+    (c.decide.ensures ns (children ws a.i) c.look-below.ensures c.named_arguments-arguments.ensures) c.hand_on.ensures)

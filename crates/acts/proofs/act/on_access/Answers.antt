@@ -8,14 +8,19 @@ use Rattle.acts.proofs.act.on_access.Goals as goal
 
 pub returns-then-not-context-sup : goal.returns-then-not-context-sup
 returns-then-not-context-sup c =
-    λ N w l o i p. decided_along w _ _ _ c.args.q.context (access-kept N w l (context_of c.args.q.context) c.args.q.slot o c.args.row.kind c.args.row.attr c.args.row.name i c.args.sup p (not_from_false _ c.if-not-context-sup.true)) _ _ c.along.ensures c.kept.ensures
+    let a = c.args in
+    λ N w l o i p. decided_along w _ _ _ a.q.context (access-kept N w l (context_of a.q.context) a.q.slot o a.row.kind a.row.attr a.row.name i a.sup p (not_from_false _ c.if-not-context-sup.true)) _ _ c.along.ensures c.kept.ensures
 
 pub returns-then-slot-eq-DROPPED : goal.returns-then-slot-eq-DROPPED
 unfolding op_of
 returns-then-slot-eq-DROPPED c =
-    λ N w l o i p. decided_along w _ _ _ c.args.q.context (access-gone N w l (context_of c.args.q.context) c.args.q.slot o c.args.row.kind c.args.row.attr c.args.row.name i c.args.sup p (not_from_true _ c.if-not-context-sup.false) c.if-slot-eq-DROPPED.true) _ _ c.along-then-slot-eq-DROPPED.ensures (refl)
+    let a = c.args in
+    λ N w l o i p. decided_along w _ _ _ a.q.context (access-gone N w l (context_of a.q.context) a.q.slot o a.row.kind a.row.attr a.row.name i a.sup p
+    (not_from_true _ c.if-not-context-sup.false) c.if-slot-eq-DROPPED.true) _ _ c.along-then-slot-eq-DROPPED.ensures (refl)
 
 pub returns : goal.returns
 unfolding op_of
 returns c =
-    λ N w l o i p. decided_along w _ _ _ c.args.q.context (access-read N w l (context_of c.args.q.context) c.args.q.slot o c.args.row.kind c.args.row.attr c.args.row.name i c.args.sup p (not_from_true _ c.if-not-context-sup.false) c.if-slot-eq-DROPPED.false) _ _ c.along-2.ensures (refl)
+    let a = c.args in
+    λ N w l o i p. decided_along w _ _ _ a.q.context (access-read N w l (context_of a.q.context) a.q.slot o a.row.kind a.row.attr a.row.name i a.sup p
+    (not_from_true _ c.if-not-context-sup.false) c.if-slot-eq-DROPPED.false) _ _ c.along-2.ensures (refl)

@@ -8,8 +8,10 @@ use Rattle.acts.proofs.act.on_assign.Goals as goal
 pub returns-then-context-access : goal.returns-then-context-access
 unfolding op_of
 returns-then-context-access c =
-    λ N w l o i p q. decided_along w _ _ _ c.args.q.context (assign-yes N w l (context_of c.args.q.context) c.args.q.slot o c.args.row.kind c.args.row.attr c.args.row.name i c.args.access c.args.property p q c.if-context-access.true) _ _ c.along.ensures (refl)
+    let a = c.args in
+    λ N w l o i p q. decided_along w _ _ _ a.q.context (assign-yes N w l (context_of a.q.context) a.q.slot o a.row.kind a.row.attr a.row.name i a.access a.property p q c.if-context-access.true) _ _ c.along.ensures (refl)
 
 pub returns : goal.returns
 returns c =
-    λ N w l o i p q. decided_along w _ _ _ c.args.q.context (assign-no N w l (context_of c.args.q.context) c.args.q.slot o c.args.row.kind c.args.row.attr c.args.row.name i c.args.access c.args.property p q c.if-context-access.false) _ _ c.along-2.ensures c.kept.ensures
+    let a = c.args in
+    λ N w l o i p q. decided_along w _ _ _ a.q.context (assign-no N w l (context_of a.q.context) a.q.slot o a.row.kind a.row.attr a.row.name i a.access a.property p q c.if-context-access.false) _ _ c.along-2.ensures c.kept.ensures

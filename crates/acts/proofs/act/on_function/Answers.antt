@@ -5,8 +5,14 @@ use Rattle.acts.proofs.act.on_function.Goals as goal
 
 pub returns-then-late : goal.returns-then-late
 returns-then-late c =
-    λ N i. decided (switches_of c.args.switches) (context_of c.args.q.context) _ _ _ _ (function_late N (switches_of c.args.switches) c.args.late (context_of c.args.q.context) c.args.q.slot c.args.at c.args.row.kind c.args.row.attr c.args.row.name i c.if-late.true) _ _ _ _ c.inside.ensures c.kept.ensures c.in_params-params.ensures c.in_body-body.ensures
+    let a = c.args in
+    let w = switches_of a.switches in
+    let x = context_of a.q.context in
+    λ N i. decided w x _ _ _ _ (function_late N w a.late x a.q.slot a.at a.row.kind a.row.attr a.row.name i c.if-late.true) _ _ _ _ c.inside.ensures c.kept.ensures c.in_params-params.ensures c.in_body-body.ensures
 
 pub returns : goal.returns
 returns c =
-    λ N i. decided (switches_of c.args.switches) (context_of c.args.q.context) _ _ _ _ (function_plain N (switches_of c.args.switches) c.args.late (context_of c.args.q.context) c.args.q.slot c.args.at c.args.row.kind c.args.row.attr c.args.row.name i c.if-late.false) _ _ _ _ c.inside-2.ensures c.kept-2.ensures c.in_params-params.ensures c.in_body-body.ensures
+    let a = c.args in
+    let w = switches_of a.switches in
+    let x = context_of a.q.context in
+    λ N i. decided w x _ _ _ _ (function_plain N w a.late x a.q.slot a.at a.row.kind a.row.attr a.row.name i c.if-late.false) _ _ _ _ c.inside-2.ensures c.kept-2.ensures c.in_params-params.ensures c.in_body-body.ensures

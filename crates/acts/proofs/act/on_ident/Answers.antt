@@ -8,8 +8,10 @@ use Rattle.acts.proofs.act.on_ident.Goals as goal
 pub returns-then-only-arguments : goal.returns-then-only-arguments
 unfolding op_of
 returns-then-only-arguments c =
-    λ N w l o i p q. decided_along w _ _ _ c.args.q.context (ident-yes N w l (context_of c.args.q.context) c.args.q.slot o c.args.row.kind c.args.row.attr c.args.row.name i c.args.only c.args.arguments p q c.if-only-arguments.true) _ _ c.along.ensures (refl)
+    let a = c.args in
+    λ N w l o i p q. decided_along w _ _ _ a.q.context (ident-yes N w l (context_of a.q.context) a.q.slot o a.row.kind a.row.attr a.row.name i a.only a.arguments p q c.if-only-arguments.true) _ _ c.along.ensures (refl)
 
 pub returns : goal.returns
 returns c =
-    λ N w l o i p q. decided_along w _ _ _ c.args.q.context (ident-no N w l (context_of c.args.q.context) c.args.q.slot o c.args.row.kind c.args.row.attr c.args.row.name i c.args.only c.args.arguments p q c.if-only-arguments.false) _ _ c.along-2.ensures c.kept.ensures
+    let a = c.args in
+    λ N w l o i p q. decided_along w _ _ _ a.q.context (ident-no N w l (context_of a.q.context) a.q.slot o a.row.kind a.row.attr a.row.name i a.only a.arguments p q c.if-only-arguments.false) _ _ c.along-2.ensures c.kept.ensures

@@ -5,4 +5,7 @@ use Rattle.acts.proofs.act.on_static.Goals as goal
 
 pub returns : goal.returns
 returns c =
-    λ N l i. decided (switches_of c.args.switches) (context_of c.args.q.context) _ _ _ _ (static_act N (switches_of c.args.switches) l (context_of c.args.q.context) c.args.q.slot c.args.at c.args.row.kind c.args.row.attr c.args.row.name i) _ _ _ _ c.inside.ensures c.kept.ensures c.in_static-context.ensures c.in_static-context.ensures
+    let a = c.args in
+    let w = switches_of a.switches in
+    let x = context_of a.q.context in
+    λ N l i. decided w x _ _ _ _ (static_act N w l x a.q.slot a.at a.row.kind a.row.attr a.row.name i) _ _ _ _ c.inside.ensures c.kept.ensures c.in_static-context.ensures c.in_static-context.ensures

@@ -1,16 +1,8 @@
 -- `converter::result::up_to_4096` meets its contract. Assumes nothing.
 use mathlib.Core.Path.{refl}
 use native.Mathlib.Omega.{arith}
-use Rattle.converter.proofs.Spaces.{zero_store, zero_filed}
+use Rattle.converter.proofs.Spaces.{over_zeros}
 use Rattle.converter.proofs.result.up_to_4096.Goals as goal
 
 pub write_result-requires : goal.write_result-requires
-write_result-requires c =
-    record {
-      accepted = c.requires.accepted;
-      on = c.requires.switches_value.0;
-      empty = zero_store 49152 4096 refl (omega arith);
-      unfiled = zero_filed c.args.names.now c.args.text.now 49152 4096;
-      low = omega arith;
-      fits = c.requires.switches_value.1;
-    }
+write_result-requires c = over_zeros 49152 4096 refl (omega arith) (omega arith) c.requires.accepted c.requires.switches_value

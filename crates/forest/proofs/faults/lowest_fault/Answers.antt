@@ -28,7 +28,8 @@ returns-then-early-ne0 c =
 pub mark_children-count-requires : goal.mark_children-count-requires
 mark_children-count-requires c =
     let l = c.loop-i.invariant.long ∙ length-set c.args.marks.now 0 c.top_mark.result in
-    let within : c.cell-e.result ≤ c.args.n = end-within _ _ _ _ _ _ _ _ _ _ _ c.loop-i.invariant c.loop-i-test.true c.cell-k.ensures.0 c.cell-a.ensures.0 c.cell-name.ensures.0 c.cell-e.ensures.0 refl (sym c.early_fault-early.ensures ∙ c.if-early-ne0.false) in
+    let within : c.cell-e.result ≤ c.args.n = end-within _ _ _ _ _ _ _ _ _ _ _ c.loop-i.invariant c.loop-i-test.true c.cell-k.ensures.0 c.cell-a.ensures.0 c.cell-name.ensures.0 c.cell-e.ensures.0 refl
+    (sym c.early_fault-early.ensures ∙ c.if-early-ne0.false) in
     omega arith
 
 pub late_fault-late-requires : goal.late_fault-late-requires
@@ -40,11 +41,13 @@ shape_of-marks-then-late-ne0 c = let l = c.loop-i.invariant.long ∙ length-set 
 
 pub returns-then-late-ne0 : goal.returns-then-late-ne0
 returns-then-late-ne0 c =
-    bad-late _ _ _ _ _ _ _ _ _ _ _ c.loop-i.invariant c.loop-i-test.true c.cell-k.ensures.0 c.cell-a.ensures.0 c.cell-name.ensures.0 c.cell-e.ensures.0 refl _ (sym c.early_fault-early.ensures ∙ c.if-early-ne0.false) c.mark_children-count.ensures.0 _ c.late_fault-late.ensures c.if-late-ne0.true
+    bad-late _ _ _ _ _ _ _ _ _ _ _ c.loop-i.invariant c.loop-i-test.true c.cell-k.ensures.0 c.cell-a.ensures.0 c.cell-name.ensures.0 c.cell-e.ensures.0 refl _
+    (sym c.early_fault-early.ensures ∙ c.if-early-ne0.false) c.mark_children-count.ensures.0 _ c.late_fault-late.ensures c.if-late-ne0.true
 
 pub loop-i-preserved : goal.loop-i-preserved
 loop-i-preserved c =
-    visit-next _ _ _ _ _ _ _ _ _ _ _ c.loop-i.invariant c.loop-i-test.true c.cell-k.ensures.0 c.cell-a.ensures.0 c.cell-name.ensures.0 c.cell-e.ensures.0 refl _ (sym c.early_fault-early.ensures ∙ c.if-early-ne0.false) c.mark_children-count.ensures.0 (sym c.late_fault-late.ensures ∙ c.if-late-ne0.false) _ (omega (arith, c.loop-i.invariant.long)) c.mark_children-count.ensures.1
+    visit-next _ _ _ _ _ _ _ _ _ _ _ c.loop-i.invariant c.loop-i-test.true c.cell-k.ensures.0 c.cell-a.ensures.0 c.cell-name.ensures.0 c.cell-e.ensures.0 refl _
+    (sym c.early_fault-early.ensures ∙ c.if-early-ne0.false) c.mark_children-count.ensures.0 (sym c.late_fault-late.ensures ∙ c.if-late-ne0.false) _ (omega (arith, c.loop-i.invariant.long)) c.mark_children-count.ensures.1
 
 pub shape_of-marks : goal.shape_of-marks
 shape_of-marks c = c.loop-i.invariant.long ∙ length-set c.args.marks.now 0 c.top_mark.result

@@ -17,8 +17,20 @@ kind_at-requires c = let b = c.requires.at.bytes in let r = c.requires.at.row in
 
 pub returns-then-not-kind_at-constructor : goal.returns-then-not-kind_at-constructor
 returns-then-not-kind_at-constructor c =
-    late_no (names_of c.args.names.now c.args.text.now) (switches_of c.args.switches) (place_of c.args.q) c.args.i _ _ (children (words c.args.rows.now) c.args.i) c.kind_at.result c.attr_at-attr.result c.has_bit-constructor.result c.kind_at.ensures.0 c.attr_at-attr.ensures.0 c.has_bit-constructor.ensures (not_from_false _ c.if-not-kind_at-constructor.true)
+    let a = c.args in
+    let N = names_of a.names.now a.text.now in
+    let inside = children (words a.rows.now) a.i in
+    let k = c.kind_at in
+    let x = c.attr_at-attr in
+    let b = c.has_bit-constructor in
+    late_no N (switches_of a.switches) (place_of a.q) a.i _ _ inside k.result x.result b.result k.ensures.0 x.ensures.0 b.ensures (not_from_false _ c.if-not-kind_at-constructor.true)
 
 pub returns : goal.returns
 returns c =
-    late_yes (names_of c.args.names.now c.args.text.now) (switches_of c.args.switches) (place_of c.args.q) c.args.i _ _ (children (words c.args.rows.now) c.args.i) c.kind_at.result c.attr_at-attr.result c.has_bit-constructor.result c.kind_at.ensures.0 c.attr_at-attr.ensures.0 c.has_bit-constructor.ensures (not_from_true _ c.if-not-kind_at-constructor.false) c.function_leaves.result c.function_leaves.ensures
+    let a = c.args in
+    let N = names_of a.names.now a.text.now in
+    let inside = children (words a.rows.now) a.i in
+    let k = c.kind_at in
+    let x = c.attr_at-attr in
+    let b = c.has_bit-constructor in
+    late_yes N (switches_of a.switches) (place_of a.q) a.i _ _ inside k.result x.result b.result k.ensures.0 x.ensures.0 b.ensures (not_from_true _ c.if-not-kind_at-constructor.false) c.function_leaves.result c.function_leaves.ensures

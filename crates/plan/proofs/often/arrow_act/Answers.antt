@@ -9,11 +9,16 @@ use Rattle.plan.proofs.often.arrow_act.Goals as goal
 
 pub hand_on-requires : goal.hand_on-requires
 hand_on-requires c =
-    placeable (names_of [] []) (switches_of c.args.switches) c.args.late (context_of c.spot-spot.result.context) c.spot-spot.result.slot c.args.at c.args.row.kind c.args.row.attr c.args.row.name none
-    (arrow-does (names_of [] []) (switches_of c.args.switches) c.args.late (context_of c.spot-spot.result.context) c.spot-spot.result.slot c.args.at c.args.row.kind c.args.row.attr c.args.row.name none c.requires.0 (c.on_arrow.ensures (names_of [] []) c.args.late c.args.at none)) c.requires.1 c.spot-spot.ensures.frames_below
+    let a = c.args in
+    let w = switches_of a.switches in
+    placeable (names_of [] []) w a.late (context_of c.spot-spot.result.context) c.spot-spot.result.slot a.at a.row.kind a.row.attr a.row.name none
+    (arrow-does (names_of [] []) w a.late (context_of c.spot-spot.result.context) c.spot-spot.result.slot a.at a.row.kind a.row.attr a.row.name none c.requires.0 (c.on_arrow.ensures
+    (names_of [] []) a.late a.at none)) c.requires.1 c.spot-spot.ensures.frames_below
 
 pub returns : goal.returns
 returns c =
-    λ N i. takes_at N (switches_of c.args.switches) c.args.late c.args.at c.args.row.kind c.args.row.attr c.args.row.name i c.spot-spot.ensures.result_value
-    (handed N (switches_of c.args.switches) c.args.late (context_of c.spot-spot.result.context) c.spot-spot.result.slot c.args.at c.args.row.kind c.args.row.attr c.args.row.name i
-    (arrow-does N (switches_of c.args.switches) c.args.late (context_of c.spot-spot.result.context) c.spot-spot.result.slot c.args.at c.args.row.kind c.args.row.attr c.args.row.name i c.requires.0 (c.on_arrow.ensures N c.args.late c.args.at i)) c.hand_on.ensures)
+    let a = c.args in
+    let w = switches_of a.switches in
+    λ N i. takes_at N w a.late a.at a.row.kind a.row.attr a.row.name i c.spot-spot.ensures.result_value
+    (handed N w a.late (context_of c.spot-spot.result.context) c.spot-spot.result.slot a.at a.row.kind a.row.attr a.row.name i
+    (arrow-does N w a.late (context_of c.spot-spot.result.context) c.spot-spot.result.slot a.at a.row.kind a.row.attr a.row.name i c.requires.0 (c.on_arrow.ensures N a.late a.at i)) c.hand_on.ensures)

@@ -9,4 +9,6 @@ use Rattle.plan.proofs.often.body_act.Goals as goal
 pub returns : goal.returns
 unfolding op_of
 returns c =
-    λ N w l o i. takes_along w (place_of c.args.q).ctx _ _ free free (body-row N w l (place_of c.args.q).ctx (place_of c.args.q).slot o c.args.row.kind c.args.row.attr c.args.row.name i c.requires) _ refl c.inside-inside.ensures c.inside-inside.ensures
+    let a = c.args in
+    let at = place_of a.q in
+    λ N w l o i. takes_along w at.ctx _ _ free free (body-row N w l at.ctx at.slot o a.row.kind a.row.attr a.row.name i c.requires) _ refl c.inside-inside.ensures c.inside-inside.ensures

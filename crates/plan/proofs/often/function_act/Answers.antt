@@ -9,8 +9,11 @@ use Rattle.plan.proofs.often.function_act.Goals as goal
 
 pub hand_on-requires : goal.hand_on-requires
 hand_on-requires c =
-    placeable (names_of [] []) (switches_of c.args.switches) c.args.late (context_of c.spot-spot.result.context) c.spot-spot.result.slot c.args.at c.args.row.kind c.args.row.attr c.args.row.name none
-    (function-does (names_of [] []) (switches_of c.args.switches) c.args.late (context_of c.spot-spot.result.context) c.spot-spot.result.slot c.args.at c.args.row.kind c.args.row.attr c.args.row.name none c.requires.0 (c.on_function.ensures (names_of [] []) none)) c.requires.1 c.spot-spot.ensures.frames_below
+    let a = c.args in
+    let w = switches_of a.switches in
+    placeable (names_of [] []) w a.late (context_of c.spot-spot.result.context) c.spot-spot.result.slot a.at a.row.kind a.row.attr a.row.name none
+    (function-does (names_of [] []) w a.late (context_of c.spot-spot.result.context) c.spot-spot.result.slot a.at a.row.kind a.row.attr a.row.name none c.requires.0 (c.on_function.ensures
+    (names_of [] []) none)) c.requires.1 c.spot-spot.ensures.frames_below
 
 pub returns : goal.returns
 returns c =

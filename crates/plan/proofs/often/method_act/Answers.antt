@@ -9,9 +9,13 @@ use Rattle.plan.proofs.often.method_act.Goals as goal
 pub returns-then-has_bit : goal.returns-then-has_bit
 unfolding op_of
 returns-then-has_bit c =
-    λ N w l o i. takes_along w (place_of c.args.q).ctx _ _ free of_method (method_computed N w l (place_of c.args.q).ctx (place_of c.args.q).slot o c.args.row.kind c.args.row.attr c.args.row.name i c.requires (sym c.has_bit.ensures ∙ c.if-has_bit.true)) _ refl c.inside.ensures c.within-more.ensures
+    let a = c.args in
+    let at = place_of a.q in
+    λ N w l o i. takes_along w at.ctx _ _ free of_method (method_computed N w l at.ctx at.slot o a.row.kind a.row.attr a.row.name i c.requires (sym c.has_bit.ensures ∙ c.if-has_bit.true)) _ refl c.inside.ensures c.within-more.ensures
 
 pub returns : goal.returns
 unfolding op_of
 returns c =
-    λ N w l o i. takes_along w (place_of c.args.q).ctx _ _ of_method of_method (method_named N w l (place_of c.args.q).ctx (place_of c.args.q).slot o c.args.row.kind c.args.row.attr c.args.row.name i c.requires (sym c.has_bit.ensures ∙ c.if-has_bit.false)) _ refl c.within-more.ensures c.within-more.ensures
+    let a = c.args in
+    let at = place_of a.q in
+    λ N w l o i. takes_along w at.ctx _ _ of_method of_method (method_named N w l at.ctx at.slot o a.row.kind a.row.attr a.row.name i c.requires (sym c.has_bit.ensures ∙ c.if-has_bit.false)) _ refl c.within-more.ensures c.within-more.ensures

@@ -11,9 +11,14 @@ use Rattle.plan.proofs.often.this_act.Goals as goal
 pub returns-then-takes_this : goal.returns-then-takes_this
 unfolding op_of
 returns-then-takes_this c =
-    λ N w l o i. takes_along w (place_of c.args.q).ctx _ _ free free (this_name N w l (place_of c.args.q).ctx (place_of c.args.q).slot o c.args.row.kind c.args.row.attr c.args.row.name i c.requires (sym c.takes_this.ensures ∙ c.if-takes_this.true)) _ (ap (λ (f : ℕ). Op.name 1 f) c.this_at.ensures.value) c.inside-inside.ensures c.inside-inside.ensures
+    let a = c.args in
+    let at = place_of a.q in
+    λ N w l o i. takes_along w at.ctx _ _ free free (this_name N w l at.ctx at.slot o a.row.kind a.row.attr a.row.name i c.requires (sym c.takes_this.ensures ∙ c.if-takes_this.true)) _ (ap (λ
+    (f : ℕ). Op.name 1 f) c.this_at.ensures.value) c.inside-inside.ensures c.inside-inside.ensures
 
 pub returns : goal.returns
 unfolding op_of
 returns c =
-    λ N w l o i. takes_along w (place_of c.args.q).ctx _ _ free free (this-row N w l (place_of c.args.q).ctx (place_of c.args.q).slot o c.args.row.kind c.args.row.attr c.args.row.name i c.requires (sym c.takes_this.ensures ∙ c.if-takes_this.false)) _ refl c.inside-inside.ensures c.inside-inside.ensures
+    let a = c.args in
+    let at = place_of a.q in
+    λ N w l o i. takes_along w at.ctx _ _ free free (this-row N w l at.ctx at.slot o a.row.kind a.row.attr a.row.name i c.requires (sym c.takes_this.ensures ∙ c.if-takes_this.false)) _ refl c.inside-inside.ensures c.inside-inside.ensures

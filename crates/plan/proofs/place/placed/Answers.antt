@@ -5,4 +5,5 @@ use Rattle.plan.proofs.place.placed.Goals as goal
 
 pub returns : goal.returns
 returns c =
-    place-back (context_of c.args.spot.context) c.args.spot.slot c.bit-takes_this.result c.bit-takes_super.result c.bit-takes_arguments.result c.requires.frames_below c.requires.slot_bound c.bit-takes_this.ensures.value c.bit-takes_super.ensures.value c.bit-takes_arguments.ensures.value
+    place-back (context_of c.args.spot.context) c.args.spot.slot c.bit-takes_this.result c.bit-takes_super.result c.bit-takes_arguments.result c.requires.frames_below c.requires.slot_bound c.bit-takes_this.ensures.value
+    c.bit-takes_super.ensures.value c.bit-takes_arguments.ensures.value

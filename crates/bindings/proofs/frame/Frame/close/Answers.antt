@@ -53,11 +53,24 @@ entry-b-requires-in-loop-b c = let low = c.loop-b.invariant.0.low in let st = c.
 
 pub loop-b-smaller : goal.loop-b-smaller
 loop-b-smaller c =
-    closing-less c.args.made.now c.args.cap c.args.self.count c.args.self.row c.loop-b.made c.loop-b.count c.loop-b.b c.loop-b.invariant.0 c.loop-b-test.true _ _ c.add_params-count.ensures.kept.store (c.add_params-count.ensures.kept.list ∙ ap (λ (n : ℕ). binds c.loop-b.made c.args.cap c.loop-b.count ++ params_for n c.entry-x.result c.args.self.row) c.entry-u.ensures ∙ ap (λ (n : ℕ). binds c.loop-b.made c.args.cap c.loop-b.count ++ params_for (get_or c.loop-b.made c.loop-b.b 0) n c.args.self.row) c.entry-x.ensures) _ c.entry-b-in-loop-b.ensures
+    let a = c.args in
+    let g = c.loop-b in
+    let kept = c.add_params-count.ensures.kept in
+    let by-u = ap (λ (n : ℕ). binds g.made a.cap g.count ++ params_for n c.entry-x.result a.self.row) c.entry-u.ensures in
+    let by-x = ap (λ (n : ℕ). binds g.made a.cap g.count ++ params_for (get_or g.made g.b 0) n a.self.row) c.entry-x.ensures in
+    let list = kept.list ∙ by-u ∙ by-x in
+    closing-less a.made.now a.cap a.self.count a.self.row g.made g.count g.b g.invariant.0 c.loop-b-test.true _ _ kept.store list _ c.entry-b-in-loop-b.ensures
 
 pub loop-b-preserved : goal.loop-b-preserved
 loop-b-preserved c =
-    (closing-next c.args.made.now c.args.cap c.args.self.count c.args.self.row c.loop-b.made c.loop-b.count c.loop-b.b c.loop-b.invariant.0 c.loop-b-test.true _ _ c.add_params-count.ensures.kept.store (c.add_params-count.ensures.kept.list ∙ ap (λ (n : ℕ). binds c.loop-b.made c.args.cap c.loop-b.count ++ params_for n c.entry-x.result c.args.self.row) c.entry-u.ensures ∙ ap (λ (n : ℕ). binds c.loop-b.made c.args.cap c.loop-b.count ++ params_for (get_or c.loop-b.made c.loop-b.b 0) n c.args.self.row) c.entry-x.ensures) _ c.entry-b-in-loop-b.ensures, c.add_params-count.ensures.made_unchanged ∙ c.loop-b.invariant.1)
+    let a = c.args in
+    let g = c.loop-b in
+    let kept = c.add_params-count.ensures.kept in
+    let by-u = ap (λ (n : ℕ). binds g.made a.cap g.count ++ params_for n c.entry-x.result a.self.row) c.entry-u.ensures in
+    let by-x = ap (λ (n : ℕ). binds g.made a.cap g.count ++ params_for (get_or g.made g.b 0) n a.self.row) c.entry-x.ensures in
+    let list = kept.list ∙ by-u ∙ by-x in
+    let next = closing-next a.made.now a.cap a.self.count a.self.row g.made g.count g.b g.invariant.0 c.loop-b-test.true _ _ kept.store list _ c.entry-b-in-loop-b.ensures in
+    (next, c.add_params-count.ensures.made_unchanged ∙ g.invariant.1)
 
 pub shape_of-made : goal.shape_of-made
 shape_of-made c = let l = c.loop-b.invariant.0.store.long in let A = c.requires in let m = A.store.long in l ∙ sym m

@@ -13,17 +13,26 @@ use Rattle.bindings.proofs.Filing.{super_kept, super_filed}
 use Rattle.bindings.proofs.frame.Frame.note_super.Goals as goal
 
 pub returns-then-accessor-ne0 : goal.returns-then-accessor-ne0
-returns-then-accessor-ne0 c = record {
-  kept = record { store = c.requires.asked.store; list = sym (note-some (names_of c.args.names.now c.args.text.now) c.args.u c.args.self.row c.args.x (binds c.args.made.now c.args.cap c.args.self.count) _ c.accessor.ensures.0 c.if-accessor-ne0.true) };
-  row_value = refl;
-  filed_2 = subst (λ (l : List Binding). Filed c.args.names.now c.args.text.now (behind c.args.cap c.args.made.now) c.args.cap l) (sym (note-some (names_of c.args.names.now c.args.text.now) c.args.u c.args.self.row c.args.x (binds c.args.made.now c.args.cap c.args.self.count) _ c.accessor.ensures.0 c.if-accessor-ne0.true)) c.requires.filed;
-}
+returns-then-accessor-ne0 c =
+    let a = c.args in
+    let names = a.names.now in
+    let text = a.text.now in
+    let made = a.made.now in
+    let same = sym (note-some (names_of names text) a.u a.self.row a.x (binds made a.cap a.self.count) _ c.accessor.ensures.0 c.if-accessor-ne0.true) in
+    record {
+      kept = record { store = c.requires.asked.store; list = same };
+      row_value = refl;
+      filed_2 = subst (λ (l : List Binding). Filed names text (behind a.cap made) a.cap l) same c.requires.filed;
+    }
 
 pub add-b-requires : goal.add-b-requires
 add-b-requires c = let A = c.requires.asked in
-    let more = subst (λ (l : List Binding). length l < c.args.cap) (note_new (names_of c.args.names.now c.args.text.now) c.args.u c.args.self.row c.args.x (binds c.args.made.now c.args.cap c.args.self.count) _ c.accessor.ensures.0 c.if-accessor-ne0.false) A.room in
+    let a = c.args in
+    let made = a.made.now in
+    let fresh = note_new (names_of a.names.now a.text.now) a.u a.self.row a.x (binds made a.cap a.self.count) _ c.accessor.ensures.0 c.if-accessor-ne0.false in
+    let more = subst (λ (l : List Binding). length l < a.cap) fresh A.room in
     record {
-      room = record { store = A.store; row_low = A.row_low; cap_low = A.cap_low; more = one_more c.args.made.now c.args.cap c.args.self.count _ more };
+      room = record { store = A.store; row_low = A.row_low; cap_low = A.cap_low; more = one_more made a.cap a.self.count _ more };
       u_value = c.requires.u_value;
     }
 
@@ -37,8 +46,19 @@ pub file-requires : goal.file-requires
 file-requires c = let A = c.requires.asked in let K = c.add-b.ensures.kept in (K.store.long, (K.store.room, (c.bucket-h.ensures.1, A.cap_low)))
 
 pub returns : goal.returns
-returns c = record {
-  kept = super_kept c.args.names.now c.args.text.now c.args.made.now c.args.cap c.args.self.count c.requires.filed c.args.u c.args.self.row c.args.x c.requires.u_value _ c.add-b.result c.add-b.ensures.kept c.add-b.ensures.made_unchanged c.add-b.ensures.value c.bucket-h.result c.bucket-h.ensures.0 c.bucket-h.ensures.1 _ c.file.ensures _ (note_new (names_of c.args.names.now c.args.text.now) c.args.u c.args.self.row c.args.x (binds c.args.made.now c.args.cap c.args.self.count) _ c.accessor.ensures.0 c.if-accessor-ne0.false);
-  row_value = refl;
-  filed_2 = super_filed c.args.names.now c.args.text.now c.args.made.now c.args.cap c.args.self.count c.requires.filed c.args.u c.args.self.row c.args.x c.requires.u_value _ c.add-b.result c.add-b.ensures.kept c.add-b.ensures.made_unchanged c.add-b.ensures.value c.bucket-h.result c.bucket-h.ensures.0 c.bucket-h.ensures.1 _ c.file.ensures _ (note_new (names_of c.args.names.now c.args.text.now) c.args.u c.args.self.row c.args.x (binds c.args.made.now c.args.cap c.args.self.count) _ c.accessor.ensures.0 c.if-accessor-ne0.false);
-}
+returns c =
+    let a = c.args in
+    let names = a.names.now in
+    let text = a.text.now in
+    let made = a.made.now in
+    let b = c.add-b in
+    let e = c.add-b.ensures in
+    let h = c.bucket-h in
+    let fresh = note_new (names_of names text) a.u a.self.row a.x (binds made a.cap a.self.count) _ c.accessor.ensures.0 c.if-accessor-ne0.false in
+    record {
+      kept = super_kept names text made a.cap a.self.count c.requires.filed a.u a.self.row a.x c.requires.u_value
+          _ b.result e.kept e.made_unchanged e.value h.result h.ensures.0 h.ensures.1 _ c.file.ensures _ fresh;
+      row_value = refl;
+      filed_2 = super_filed names text made a.cap a.self.count c.requires.filed a.u a.self.row a.x c.requires.u_value
+          _ b.result e.kept e.made_unchanged e.value h.result h.ensures.0 h.ensures.1 _ c.file.ensures _ fresh;
+    }
