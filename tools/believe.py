@@ -35,8 +35,10 @@ BEGIN, END = "<!-- made by tools/believe.py -->\n", "<!-- end -->\n"
 
 ROOT = os.path.dirname(os.path.dirname(os.path.abspath(__file__)))
 SIGNS = {":", "=", "→", "λ", "_", "let", "in", "record", "where", "Type"}
-LANGUAGE = {"Unit", "tt", "⊥", "×"}                 # names of the kit that need no `use`
-LENT = {"now", "old", "new"}                        # fields of the kit, of a parameter that is a reference
+LANGUAGE = {"Unit", "tt", "⊥", "×", "IsProp"}       # names of the kit that need no `use`
+LENT = {"now", "old", "new", "entry"}               # fields of the kit, of a parameter that is a reference
+KIT_TYPES = {"Option", "Result"}                    # types of the kit that need no `use`
+GHOST = re.compile(r"^    (?:pub )?ghost (\w+): \{(.*?)\}(?: by \{.*\})?,\n", re.M)
 OPEN, CLOSE = {"(", "{", "⌜"}, {")", "}", "⌝"}
 WORD = re.compile(r"\.?«[^»]*»|[(){}⌜⌝;]|[^\s(){}⌜⌝;«»]+")
 NUMBER = re.compile(r"0x[0-9A-Fa-f]+|\d+")
@@ -57,7 +59,8 @@ def text_of(path):
 
 
 def words_of(text):
-    return [word.replace("«", "").replace("»", "") for word in WORD.findall(text)]
+    words = [word.replace("«", "").replace("»", "") for word in WORD.findall(text)]
+    return [word for word in (word.rstrip(",") for word in words) if word]     # `(x, y)` is a pair
 
 
 def indent(line):
@@ -267,18 +270,32 @@ def code_type(crate, path, user):
         if (file, name) in CODE:
             return CODE[file, name]
         text = text_of(file) if os.path.isfile(os.path.join(ROOT, file)) else ""
-        found = re.search(r"^(?:pub )?(?:struct|enum) %s\b[^{;]*\{\n(.*?)^\}$" % name, text, re.M | re.S)
+        found = re.search(r"^(?:pub )?(?:struct|enum) %s\b(?:;|[^{;]*\{\n(.*?)^\})$" % name, text, re.M | re.S)
         if found:
             item = CODE[file, name] = Item(file, name, "code")
             first = text.count("\n", 0, found.start()) + 1
             for number, line in enumerate(found.group().split("\n"), first):
                 if line.strip() and not line.strip().startswith("//"):
                     item.lines[number] = line
-            inner = re.sub(r"^ *//.*\n", "", found.group(1), flags=re.M)
+            inner = re.sub(r"^ *//.*\n", "", found.group(1) or "", flags=re.M)
+            ghosts, inner = GHOST.findall(inner), GHOST.sub("", inner)
             item.members = re.findall(r"^    (?:pub )?(\w+)", inner, re.M)
             item.cites = code_types(re.sub(r"^    (?:pub )?\w+", "", inner, flags=re.M), file)
+            scope = ghost_scope(file, text) if ghosts else None
+            for _, fact in ghosts:                  # what each value of the type is known to meet
+                cite(item, scope, words_of(fact), set(item.members))
+            item.members += [ghost for ghost, _ in ghosts]
             return item
     stop(user, "no struct or enum %s in crates/%s/src" % ("::".join(path), crate))
+
+
+def ghost_scope(path, text):
+    """What the words of the contracts of a file of code stand for."""
+    scope = Scope(path)
+    for line in re.findall(r"^ghost (use [^;]*);", text, re.M):
+        if not re.match(r"use Rattle\.\w+\.proofs\b", line):
+            scope.use(line)
+    return scope
 
 
 def used_paths(text):
@@ -306,6 +323,8 @@ def code_types(text, file):
             uses[other or path.split("::")[-1]] = path.split("::")
     found = []
     for name in re.findall(r"(?<![\w:])(?:\w+::)*[A-Z]\w*", text):
+        if name in KIT_TYPES - set(uses) or name == name.upper():     # in capitals: a constant, or a parameter
+            continue
         path = name.split("::")
         path = uses.get(path[0], path[:1]) + path[1:]
         if len(path) == 1:
@@ -320,10 +339,8 @@ def code_types(text, file):
 
 def entry(path, name):
     """An entry as an item: its clauses, and what they and its signature cite."""
-    item, scope = Item(path, name), Scope(path)
     text = re.sub(r"^ *//.*\n", "", text_of(path), flags=re.M)
-    for line in re.findall(r"^ghost (use [^;]*);", text, re.M):
-        scope.use(line)
+    item, scope = Item(path, name), ghost_scope(path, text)
     head = r"^(?:pub )?(?:extern \"C\" )?fn %s(?:<[^<>]*>)?\(([^()]*)\)(?: -> (.*))?\n((?:.+\n)*?)\{\n" % name
     found = re.findall(head, text, re.M)
     if len(found) != 1 or not found[0][2]:

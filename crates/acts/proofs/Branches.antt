@@ -1,19 +1,24 @@
 -- The steps' act of a row in each branch of the code. Assumes nothing.
 use mathlib.Core.Path.{◌≡◌, refl, ap, sym, subst, ◌∙◌}
+use mathlib.Core.Logic.{◌⊎◌, inl, inr}
 use mathlib.Core.Bool.{Bool, true, false, cond, not, ◌&&◌, ◌||◌}
-use Prim.Native.Nat.{ℕ}
-use borrow.Author.Tests.{eq-eqb, ne_eqb}
+use Prim.Native.Nat.{ℕ, ◌+◌, ◌<◌, ◌≤◌}
+use native.Mathlib.Omega.{arith}
+use Rattle.std.proofs.lemmas.Bool.{cases_lt}
+use borrow.Author.Tests.{ne_eqb}
 use lib.Dec.{eqb}
 use Rattle.grammar.specs.Kinds.{This, Super, Ident, Member, Computed, Call, Assign, Arrow, Function, Method, Field, StaticBlock, Property, Target}
 use Rattle.forest.specs.Forest.{Rows}
 use Rattle.steps.specs.Mode.{Switches, bit, enabled, async_only}
 use Rattle.steps.specs.Naming.{Names, named_arguments}
-use Rattle.steps.specs.Paths.{Step.along, Step.in_params, Step.in_body, Step.in_arrow, Step.in_value, Step.in_static}
+use Rattle.steps.specs.Paths.{Step, Step.along, Step.in_params, Step.in_body, Step.in_arrow, Step.in_value, Step.in_static}
 use Rattle.steps.specs.Slots.{free, of_method, body_of, late_body, wrapped, of_target, callee, dropped}
 use Rattle.steps.specs.Super.{first_super, first_access, first_name, first_inside}
-use Rattle.steps.specs.Acts.{Ctx, Op, Op.row, Op.drop, Op.name, Op.call, Turn, by, does, act_of, act, kind_of, Kind, Act as StepsAct}
+use Rattle.steps.specs.Acts.{Ctx, Op, Op.row, Op.drop, Op.name, Op.call, by, does, act_of, act, kind_of, Kind, Act as StepsAct}
 use Rattle.steps.specs.Context.{enter}
-use Rattle.passes.specs.View.{op_of}
+use Rattle.passes.specs.View.{op_of, slot_number}
+use Rattle.passes.specs.declared.slots.Slot.{Slot}
+use Rattle.passes.specs.declared.slots.Slot.TheVariants.{Free}
 use Rattle.passes.specs.declared.Becomes.{Becomes}
 use Rattle.acts.specs.declared.context.Context.{Context}
 use Rattle.acts.specs.declared.act.Act.{Act}
@@ -21,20 +26,20 @@ use Rattle.acts.specs.View.{context_of}
 use Rattle.acts.specs.Deciding.{inside_of, Does}
 
 -- an act of the code is the steps' act, part by part
-pub decided : (w : Switches) (c : Ctx) (A : StepsAct) (X : Op) (t t' : Turn) → A ≡ does X t t' → (r : Act) (op : Becomes) (one more : Context)
-    → r ≡ inside_of op one t.slot more t'.slot → op_of op ≡ X → context_of one ≡ enter w t.step c → context_of more ≡ enter w t'.step c → Does w c A r
-decided w c A X t t' q r op one more e p f g =
+pub decided : (w : Switches) (c : Ctx) (A : StepsAct) (X : Op) (s s' : Slot) {t t' : Step} → A ≡ does X (by t (slot_number s)) (by t' (slot_number s')) → (r : Act) (op : Becomes) (one more : Context)
+    → r ≡ inside_of op one s more s' → op_of op ≡ X → context_of one ≡ enter w t c → context_of more ≡ enter w t' c → Does w c A r
+decided w c A X s s' {t} {t'} q r op one more e p f g =
     subst (λ (B : StepsAct). Does w c B r) (sym q)
-    (subst (Does w c (does X t t')) (sym e)
+    (subst (Does w c (does X (by t (slot_number s)) (by t' (slot_number s')))) (sym e)
     (record { becomes = p; first = rw f; later = rw g }))
 
 pub stay : (w : Switches) (c : Ctx) → c ≡ enter w along c
 unfolding enter
 stay w c = refl
 
-pub decided_along : (w : Switches) (A : StepsAct) (X : Op) (sl : ℕ) (context : Context) → A ≡ does X (by along sl) (by along free) → (r : Act) (op : Becomes)
-    → r ≡ inside_of op context sl context free → op_of op ≡ X → Does w (context_of context) A r
-decided_along w A X sl context q r op e p = decided w (context_of context) A X (by along sl) (by along free) q r op context context e p (stay w (context_of context)) (stay w (context_of context))
+pub decided_along : (w : Switches) (A : StepsAct) (X : Op) (sl : Slot) (context : Context) → A ≡ does X (by along (slot_number sl)) (by along free) → (r : Act) (op : Becomes)
+    → r ≡ inside_of op context sl context Free → op_of op ≡ X → Does w (context_of context) A r
+decided_along w A X sl context q r op e p = decided w (context_of context) A X sl Free q r op context context e p (stay w (context_of context)) (stay w (context_of context))
 
 assoc : (x y z : Bool) → (x && y && z) ≡ ((x && y) && z)
 assoc true y z = refl
@@ -69,13 +74,13 @@ module _ (N : Names) (w : Switches) (l : Bool) (c : Ctx) (sl o k a n : ℕ) (i :
   unfolding act_of
   this_no p = rw p
 
-  pub super-yes : sl ≡ dropped → act_of N w l c sl o Kind.super k a n i ≡ does drop (by along free) (by along free)
+  pub super-yes : eqb sl dropped ≡ true → act_of N w l c sl o Kind.super k a n i ≡ does drop (by along free) (by along free)
   unfolding act_of
-  super-yes p = rw (eq-eqb sl dropped p)
+  super-yes p = rw p
 
-  pub super_no : (sl ≡ dropped → ⊥) → act_of N w l c sl o Kind.super k a n i ≡ does (row k a n) (by along free) (by along free)
+  pub super_no : eqb sl dropped ≡ false → act_of N w l c sl o Kind.super k a n i ≡ does (row k a n) (by along free) (by along free)
   unfolding act_of
-  super_no p = rw (ne_eqb sl dropped p)
+  super_no p = rw p
 
   module _ (only arguments : Bool) (p : only ≡ async_only w) (q : arguments ≡ named_arguments N n) where
     pub ident-yes : ((only && arguments) && c.takes_arguments) ≡ true → act_of N w l c sl o Kind.ident k a n i ≡ does (name 2 c.arguments_at) (by along free) (by along free)
@@ -86,19 +91,19 @@ module _ (N : Names) (w : Switches) (l : Bool) (c : Ctx) (sl o k a n : ℕ) (i :
     unfolding act_of
     ident-no e = let h : (async_only w && named_arguments N n && c.takes_arguments) ≡ false = rw (← p, ← q) (assoc only arguments c.takes_arguments ∙ e) in rw h
 
-  module _ (sup : Bool) (p : sup ≡ first_super i) where
-    pub access-kept : not ((c.takes_super && sup) && not (eqb sl of_target)) ≡ true → act_of N w l c sl o Kind.access k a n i ≡ does (row k a n) (by along free) (by along free)
+  module _ (sup t : Bool) (p : sup ≡ first_super i) (q : t ≡ eqb sl of_target) where
+    pub access-kept : not ((c.takes_super && sup) && not t) ≡ true → act_of N w l c sl o Kind.access k a n i ≡ does (row k a n) (by along free) (by along free)
     unfolding act_of
-    access-kept e = let h : (c.takes_super && first_super i && not (eqb sl of_target)) ≡ false = rw (← p) (assoc c.takes_super sup (not (eqb sl of_target)) ∙ not-true _ e) in rw h
+    access-kept e = let h : (c.takes_super && first_super i && not (eqb sl of_target)) ≡ false = rw (← p, ← q) (assoc c.takes_super sup (not t) ∙ not-true _ e) in rw h
 
-    module _ (e : not ((c.takes_super && sup) && not (eqb sl of_target)) ≡ false) where
-      pub access-gone : sl ≡ dropped → act_of N w l c sl o Kind.access k a n i ≡ does drop (by along dropped) (by along free)
+    module _ (e : not ((c.takes_super && sup) && not t) ≡ false) where
+      pub access-gone : eqb sl dropped ≡ true → act_of N w l c sl o Kind.access k a n i ≡ does drop (by along dropped) (by along free)
       unfolding act_of
-      access-gone d = let h : (c.takes_super && first_super i && not (eqb sl of_target)) ≡ true = rw (← p) (assoc c.takes_super sup (not (eqb sl of_target)) ∙ not-false _ e) in rw (h, eq-eqb sl dropped d)
+      access-gone d = let h : (c.takes_super && first_super i && not (eqb sl of_target)) ≡ true = rw (← p, ← q) (assoc c.takes_super sup (not t) ∙ not-false _ e) in rw (h, d)
 
-      pub access-read : (sl ≡ dropped → ⊥) → act_of N w l c sl o Kind.access k a n i ≡ does (call 3 c.super_at n (eqb sl callee)) (by along dropped) (by along free)
+      pub access-read : (u : Bool) → u ≡ eqb sl callee → eqb sl dropped ≡ false → act_of N w l c sl o Kind.access k a n i ≡ does (call 3 c.super_at n u) (by along dropped) (by along free)
       unfolding act_of
-      access-read d = let h : (c.takes_super && first_super i && not (eqb sl of_target)) ≡ true = rw (← p) (assoc c.takes_super sup (not (eqb sl of_target)) ∙ not-false _ e) in rw (h, ne_eqb sl dropped d)
+      access-read u r d = let h : (c.takes_super && first_super i && not (eqb sl of_target)) ≡ true = rw (← p, ← q) (assoc c.takes_super sup (not t) ∙ not-false _ e) in rw (h, d, r)
 
   module _ (access : Bool) (p : access ≡ first_access i) where
     pub call-yes : (c.takes_super && access) ≡ true → act_of N w l c sl o Kind.call k a n i ≡ does (row k a n) (by along callee) (by along free)
@@ -118,13 +123,13 @@ module _ (N : Names) (w : Switches) (l : Bool) (c : Ctx) (sl o k a n : ℕ) (i :
     unfolding act_of
     assign-no e = let h : (c.takes_super && first_access (first_inside i)) ≡ false = rw (← p) e in rw h
 
-  pub target_yes : sl ≡ dropped → act_of N w l c sl o Kind.target k a n i ≡ does drop (by along dropped) (by along free)
+  pub target_yes : eqb sl dropped ≡ true → act_of N w l c sl o Kind.target k a n i ≡ does drop (by along dropped) (by along free)
   unfolding act_of
-  target_yes p = rw (eq-eqb sl dropped p)
+  target_yes p = rw p
 
-  pub target_no : (sl ≡ dropped → ⊥) → act_of N w l c sl o Kind.target k a n i ≡ does (row k a n) (by along of_target) (by along free)
+  pub target_no : eqb sl dropped ≡ false → act_of N w l c sl o Kind.target k a n i ≡ does (row k a n) (by along of_target) (by along free)
   unfolding act_of
-  target_no p = rw (ne_eqb sl dropped p)
+  target_no p = rw p
 
   pub other-act : act_of N w l c sl o Kind.other k a n i ≡ does (row k a n) (by along free) (by along free)
   unfolding act_of
@@ -143,13 +148,14 @@ module _ (N : Names) (w : Switches) (l : Bool) (c : Ctx) (sl o k a n : ℕ) (i :
     unfolding act_of
     arrow-bodied h z = let g : (enabled w && not (bit 1 a)) ≡ true = rw (← p, ← q) (either y s h) in rw (g, ← r, z)
 
-  pub function_late : l ≡ true → act_of N w l c sl o Kind.function k a n i ≡ does (row k a n) (by (in_params o a (eqb sl of_method)) free) (by (in_body o a (eqb sl of_method)) late_body)
-  unfolding act_of
-  function_late p = rw p
+  module _ (m : Bool) (q : m ≡ eqb sl of_method) where
+    pub function_late : l ≡ true → act_of N w l c sl o Kind.function k a n i ≡ does (row k a n) (by (in_params o a m) free) (by (in_body o a m) late_body)
+    unfolding act_of
+    function_late p = rw (p, q)
 
-  pub function_plain : l ≡ false → act_of N w l c sl o Kind.function k a n i ≡ does (row k a n) (by (in_params o a (eqb sl of_method)) free) (by (in_body o a (eqb sl of_method)) body_of)
-  unfolding act_of
-  function_plain p = rw p
+    pub function_plain : l ≡ false → act_of N w l c sl o Kind.function k a n i ≡ does (row k a n) (by (in_params o a m) free) (by (in_body o a m) body_of)
+    unfolding act_of
+    function_plain p = rw (p, q)
 
   module _ (x y : Bool) (p : x ≡ bit 1 a) (q : y ≡ bit 2 a) where
     pub keyed-plain : not (eqb k Method || y) ≡ true → act_of N w l c sl o Kind.keyed k a n i ≡ does (row k a n) (by along free) (by along free)
@@ -178,69 +184,45 @@ module _ (N : Names) (w : Switches) (l : Bool) (c : Ctx) (sl o k a n : ℕ) (i :
   unfolding act_of
   static_act = refl
 
--- the kind that a rule is about, by the tests of the code
+-- the kinds of two, and those that no rule is about, by the match of the code
 module _ (k : ℕ) where
-  pub is_this : k ≡ This → kind_of k ≡ Kind.this
-  unfolding kind_of
-  is_this h0 = rw (eq-eqb k This h0)
+  two : (j : ℕ) → j ≤ k → k < j + 2 → (k ≡ j) ⊎ (k ≡ j + 1)
+  two j l u = go (cases_lt k (j + 1))
+    where
+      go : (k < j + 1) ⊎ (j + 1 ≤ k) → (k ≡ j) ⊎ (k ≡ j + 1)
+      go (inl h) = inl (omega arith)
+      go (inr h) = inr (omega arith)
 
-  pub is_super : (k ≡ This → ⊥) → k ≡ Super → kind_of k ≡ Kind.super
+  pub is_access : Member ≤ k → k < Call → kind_of k ≡ Kind.access
   unfolding kind_of
-  is_super h0 h1 = rw (ne_eqb k This h0, eq-eqb k Super h1)
+  is_access l u = elim (two 12 l u) [ inl h ↦ rw h refl | inr h ↦ rw h refl ]
 
-  pub is-ident : (k ≡ This → ⊥) → (k ≡ Super → ⊥) → k ≡ Ident → kind_of k ≡ Kind.ident
+  pub is_keyed : (k ≡ Method) ⊎ (k ≡ Property) → kind_of k ≡ Kind.keyed
   unfolding kind_of
-  is-ident h0 h1 h2 = rw (ne_eqb k This h0, ne_eqb k Super h1, eq-eqb k Ident h2)
+  is_keyed e = elim e [ inl h ↦ rw h refl | inr h ↦ rw h refl ]
 
-  pub is_access : (k ≡ This → ⊥) → (k ≡ Super → ⊥) → (k ≡ Ident → ⊥) → (eqb k Member || eqb k Computed) ≡ true → kind_of k ≡ Kind.access
+  pub is-other : (k ≡ This → ⊥) → (k ≡ Super → ⊥) → (k ≡ Ident → ⊥) → (k ≡ Member → ⊥) → (k ≡ Computed → ⊥) → (k ≡ Call → ⊥) → (k ≡ Assign → ⊥) → (k ≡ Arrow → ⊥) → (k ≡ Function → ⊥) →
+      (k ≡ Method → ⊥) → (k ≡ Property → ⊥) → (k ≡ Field → ⊥) → (k ≡ StaticBlock → ⊥) → (k ≡ Target → ⊥) → kind_of k ≡ Kind.other
   unfolding kind_of
-  is_access h0 h1 h2 h3 = rw (ne_eqb k This h0, ne_eqb k Super h1, ne_eqb k Ident h2, h3)
-
-  pub is_call : (k ≡ This → ⊥) → (k ≡ Super → ⊥) → (k ≡ Ident → ⊥) → (eqb k Member || eqb k Computed) ≡ false → k ≡ Call → kind_of k ≡ Kind.call
-  unfolding kind_of
-  is_call h0 h1 h2 h3 h4 = rw (ne_eqb k This h0, ne_eqb k Super h1, ne_eqb k Ident h2, h3, eq-eqb k Call h4)
-
-  pub is_assign : (k ≡ This → ⊥) → (k ≡ Super → ⊥) → (k ≡ Ident → ⊥) → (eqb k Member || eqb k Computed) ≡ false → (k ≡ Call → ⊥) → k ≡ Assign → kind_of k ≡ Kind.assign
-  unfolding kind_of
-  is_assign h0 h1 h2 h3 h4 h5 = rw (ne_eqb k This h0, ne_eqb k Super h1, ne_eqb k Ident h2, h3, ne_eqb k Call h4, eq-eqb k Assign h5)
-
-  pub is-arrow : (k ≡ This → ⊥) → (k ≡ Super → ⊥) → (k ≡ Ident → ⊥) → (eqb k Member || eqb k Computed) ≡ false → (k ≡ Call → ⊥) → (k ≡ Assign → ⊥) → k ≡ Arrow → kind_of k ≡ Kind.arrow
-  unfolding kind_of
-  is-arrow h0 h1 h2 h3 h4 h5 h6 = rw (ne_eqb k This h0, ne_eqb k Super h1, ne_eqb k Ident h2, h3, ne_eqb k Call h4, ne_eqb k Assign h5, eq-eqb k Arrow h6)
-
-  pub is-function : (k ≡ This → ⊥) → (k ≡ Super → ⊥) → (k ≡ Ident → ⊥) → (eqb k Member || eqb k Computed) ≡ false → (k ≡ Call → ⊥) → (k ≡ Assign → ⊥) → (k ≡ Arrow → ⊥) →
-      k ≡ Function → kind_of k ≡ Kind.function
-  unfolding kind_of
-  is-function h0 h1 h2 h3 h4 h5 h6 h7 = rw (ne_eqb k This h0, ne_eqb k Super h1, ne_eqb k Ident h2, h3, ne_eqb k Call h4, ne_eqb k Assign h5, ne_eqb k Arrow h6, eq-eqb k Function h7)
-
-  pub is_keyed : (k ≡ This → ⊥) → (k ≡ Super → ⊥) → (k ≡ Ident → ⊥) → (eqb k Member || eqb k Computed) ≡ false → (k ≡ Call → ⊥) → (k ≡ Assign → ⊥) → (k ≡ Arrow → ⊥) →
-      (k ≡ Function → ⊥) → (eqb k Method || eqb k Property) ≡ true → kind_of k ≡ Kind.keyed
-  unfolding kind_of
-  is_keyed h0 h1 h2 h3 h4 h5 h6 h7 h8 = rw (ne_eqb k This h0, ne_eqb k Super h1, ne_eqb k Ident h2, h3, ne_eqb k Call h4, ne_eqb k Assign h5, ne_eqb k Arrow h6, ne_eqb k Function h7, h8)
-
-  pub is_field : (k ≡ This → ⊥) → (k ≡ Super → ⊥) → (k ≡ Ident → ⊥) → (eqb k Member || eqb k Computed) ≡ false → (k ≡ Call → ⊥) → (k ≡ Assign → ⊥) → (k ≡ Arrow → ⊥) →
-      (k ≡ Function → ⊥) → (eqb k Method || eqb k Property) ≡ false → k ≡ Field → kind_of k ≡ Kind.field
-  unfolding kind_of
-  is_field h0 h1 h2 h3 h4 h5 h6 h7 h8 h9 = rw (ne_eqb k This h0, ne_eqb k Super h1, ne_eqb k Ident h2, h3, ne_eqb k Call h4, ne_eqb k Assign h5, ne_eqb k Arrow h6, ne_eqb k Function h7, h8, eq-eqb k Field h9)
-
-  pub is_static : (k ≡ This → ⊥) → (k ≡ Super → ⊥) → (k ≡ Ident → ⊥) → (eqb k Member || eqb k Computed) ≡ false → (k ≡ Call → ⊥) → (k ≡ Assign → ⊥) → (k ≡ Arrow → ⊥) →
-      (k ≡ Function → ⊥) → (eqb k Method || eqb k Property) ≡ false → (k ≡ Field → ⊥) → k ≡ StaticBlock → kind_of k ≡ Kind.static
-  unfolding kind_of
-  is_static h0 h1 h2 h3 h4 h5 h6 h7 h8 h9 h10 = rw (ne_eqb k This h0, ne_eqb k Super h1, ne_eqb k Ident h2, h3, ne_eqb k Call h4, ne_eqb k Assign h5, ne_eqb k Arrow h6, ne_eqb k Function h7, h8, ne_eqb k Field h9, eq-eqb k StaticBlock h10)
-
-  pub is-target : (k ≡ This → ⊥) → (k ≡ Super → ⊥) → (k ≡ Ident → ⊥) → (eqb k Member || eqb k Computed) ≡ false → (k ≡ Call → ⊥) → (k ≡ Assign → ⊥) → (k ≡ Arrow → ⊥) →
-      (k ≡ Function → ⊥) → (eqb k Method || eqb k Property) ≡ false → (k ≡ Field → ⊥) → (k ≡ StaticBlock → ⊥) → k ≡ Target → kind_of k ≡ Kind.target
-  unfolding kind_of
-  is-target h0 h1 h2 h3 h4 h5 h6 h7 h8 h9 h10 h11 =
-      rw (ne_eqb k This h0, ne_eqb k Super h1, ne_eqb k Ident h2, h3, ne_eqb k Call h4, ne_eqb k Assign h5, ne_eqb k Arrow h6, ne_eqb k Function h7, h8, ne_eqb k Field h9, ne_eqb k StaticBlock h10, eq-eqb k Target h11)
-
-  pub is-other : (k ≡ This → ⊥) → (k ≡ Super → ⊥) → (k ≡ Ident → ⊥) → (eqb k Member || eqb k Computed) ≡ false → (k ≡ Call → ⊥) → (k ≡ Assign → ⊥) → (k ≡ Arrow → ⊥) →
-      (k ≡ Function → ⊥) → (eqb k Method || eqb k Property) ≡ false → (k ≡ Field → ⊥) → (k ≡ StaticBlock → ⊥) → (k ≡ Target → ⊥) → kind_of k ≡ Kind.other
-  unfolding kind_of
-  is-other h0 h1 h2 h3 h4 h5 h6 h7 h8 h9 h10 h11 =
-      rw (ne_eqb k This h0, ne_eqb k Super h1, ne_eqb k Ident h2, h3, ne_eqb k Call h4, ne_eqb k Assign h5, ne_eqb k Arrow h6, ne_eqb k Function h7, h8, ne_eqb k Field h9, ne_eqb k StaticBlock h10, ne_eqb k Target h11)
+  is-other h0 h1 h2 h3 h4 h5 h6 h7 h8 h9 h10 h11 h12 h13 =
+      rw (
+        ne_eqb k This h0,
+        ne_eqb k Super h1,
+        ne_eqb k Ident h2,
+        ne_eqb k Member h3,
+        ne_eqb k Computed h4,
+        ne_eqb k Call h5,
+        ne_eqb k Assign h6,
+        ne_eqb k Arrow h7,
+        ne_eqb k Function h8,
+        ne_eqb k Method h9,
+        ne_eqb k Property h10,
+        ne_eqb k Field h11,
+        ne_eqb k StaticBlock h12,
+        ne_eqb k Target h13,
+      )
 
 -- an act by its kind
-pub by_kind : (N : Names) (w : Switches) (l : Bool) (c : Ctx) (sl o k a n : ℕ) (i : Rows) (K : Kind) (r : Act) → kind_of k ≡ K → Does w c (act_of N w l c sl o K k a n i) r → Does w c (act N w l c sl o k a n i) r
+pub by_kind : (N : Names) (w : Switches) (l : Bool) (c : Ctx) (sl o k a n : ℕ) (i : Rows) {K : Kind} {r : Act} → kind_of k ≡ K → Does w c (act_of N w l c sl o K k a n i) r → Does w c (act N w l c sl o k a n i) r
 unfolding act
-by_kind N w l c sl o k a n i K r q d = subst (λ (H : Kind). Does w c (act_of N w l c sl o H k a n i) r) (sym q) d
+by_kind N w l c sl o k a n i {K} {r} q d = subst (λ (H : Kind). Does w c (act_of N w l c sl o H k a n i) r) (sym q) d

@@ -1,9 +1,10 @@
 -- An act as the code has it, and the steps' act. Assumes nothing.
-use Rattle.std.specs.Prelude.{◌≡◌, ℕ}
+use Rattle.std.specs.Prelude.{◌≡◌}
 use Rattle.steps.specs.Mode.{Switches}
 use Rattle.steps.specs.Acts.{Ctx, Act as StepsAct}
 use Rattle.steps.specs.Context.{enter, Spot as StepsSpot, spot}
-use Rattle.passes.specs.View.{op_of}
+use Rattle.passes.specs.View.{op_of, slot_number}
+use Rattle.passes.specs.declared.slots.Slot.{Slot}
 use Rattle.passes.specs.declared.Becomes.{Becomes}
 use Rattle.acts.specs.declared.context.Context.{Context}
 use Rattle.acts.specs.declared.act.Spot.{Spot}
@@ -11,10 +12,10 @@ use Rattle.acts.specs.declared.act.Act.{Act}
 use Rattle.acts.specs.View.{context_of}
 
 abbrev pub spot_of : Spot → StepsSpot
-spot_of q = spot (context_of q.context) q.slot
+spot_of q = spot (context_of q.context) (slot_number q.slot)
 
 -- children in these contexts and slots: the first, and the later ones
-abbrev pub inside_of : (op : Becomes) (one : Context) (slot : ℕ) (more : Context) (last : ℕ) → Act
+abbrev pub inside_of : (op : Becomes) (one : Context) (slot : Slot) (more : Context) (last : Slot) → Act
 inside_of op one slot more last = record { op = op; one = record { context = one; slot = slot }; more = record { context = more; slot = last } }
 
 -- the act r of a row in context c is the steps' act A

@@ -3,12 +3,12 @@
 ghost use Rattle.std.specs.Prelude.{◌≡◌, Bool, cond, ℕ};
 ghost use Rattle.forest.specs.Forest.{Rows};
 ghost use Rattle.steps.specs.Mode.{Switches as Target, async_only};
-ghost use Rattle.steps.specs.Slots.{free};
 ghost use Rattle.steps.specs.Naming.{Names, named_arguments};
 ghost use Rattle.steps.specs.Super.{first_super, first_access, first_name, first_inside};
 ghost use Rattle.steps.specs.Acts.{act_of, act, Op, Kind};
 ghost use Rattle.below.specs.Below.{Seen};
-ghost use Rattle.passes.specs.View.{op_of};
+ghost use Rattle.passes.specs.View.{op_of, slot_number};
+ghost use Rattle.passes.specs.declared.slots.Slot.TheVariants.{Free};
 ghost use Rattle.acts.specs.View.{switches_of, context_of};
 ghost use Rattle.acts.specs.Deciding.{inside_of, Does};
 
@@ -19,14 +19,14 @@ use grammar::kinds::{
     ARROW, ASSIGN, CALL, COMPUTED, FIELD, FUNCTION, IDENT, MEMBER, METHOD, PROPERTY, STATIC_BLOCK,
     SUPER, TARGET, THIS,
 };
-use passes::Becomes;
-use passes::slots::{BODY_OF, CALLEE, DROPPED, FREE, LATE_BODY, OF_METHOD, OF_TARGET, WRAPPED};
+use passes::slots::Slot;
+use passes::{Access, Becomes, Capture};
 
 // Where a row is.
 #[derive(Clone, Copy)]
 pub struct Spot {
     pub context: Context,
-    pub slot: usize,
+    pub slot: Slot,
 }
 
 // What becomes of a row, and where its first child and its later ones are.
@@ -46,7 +46,7 @@ pub struct Words {
 }
 
 // Children in these contexts and slots: the first, and the later ones.
-fn inside(op: Becomes, one: Context, slot: usize, more: Context, last: usize) -> Act
+fn inside(op: Becomes, one: Context, slot: Slot, more: Context, last: Slot) -> Act
     ensures { result ≡ inside_of op one slot more last }
 {
     Act {
@@ -60,10 +60,10 @@ fn inside(op: Becomes, one: Context, slot: usize, more: Context, last: usize) ->
 }
 
 // Children in the same context, the first in that slot.
-fn along(op: Becomes, context: Context, slot: usize) -> Act
-    ensures { result ≡ inside_of op context slot context free }
+fn along(op: Becomes, context: Context, slot: Slot) -> Act
+    ensures { result ≡ inside_of op context slot context Free }
 {
-    inside(op, context, slot, context, FREE)
+    inside(op, context, slot, context, Slot::Free)
 }
 
 // The row stays.
@@ -79,122 +79,122 @@ fn kept(row: Words) -> Becomes
 
 // Module 3: a captured `this`.
 fn on_this(q: Spot, row: Words) -> Act
-    ensures { (N : Names) (w : Target) (l : Bool) (o : ℕ) (i : Rows) → Does w (context_of q.context) (act_of N w l (context_of q.context) q.slot o Kind.this row.kind row.attr row.name i) result }
+    ensures { (N : Names) (w : Target) (l : Bool) (o : ℕ) (i : Rows) → Does w (context_of q.context) (act_of N w l (context_of q.context) (slot_number q.slot) o Kind.this row.kind row.attr row.name i) result }
 {
     let context = q.context;
     if context.takes_this {
         let op = Becomes::Name {
-            usage: 1,
+            usage: Capture::This,
             frame: context.this_at,
         };
-        return along(op, context, FREE);
+        return along(op, context, Slot::Free);
     }
-    along(kept(row), context, FREE)
+    along(kept(row), context, Slot::Free)
 }
 
 // Module 4: the Super of a rewritten access falls away.
 fn on_super(q: Spot, row: Words) -> Act
-    ensures { (N : Names) (w : Target) (l : Bool) (o : ℕ) (i : Rows) → Does w (context_of q.context) (act_of N w l (context_of q.context) q.slot o Kind.super row.kind row.attr row.name i) result }
+    ensures { (N : Names) (w : Target) (l : Bool) (o : ℕ) (i : Rows) → Does w (context_of q.context) (act_of N w l (context_of q.context) (slot_number q.slot) o Kind.super row.kind row.attr row.name i) result }
 {
     let context = q.context;
-    if q.slot == DROPPED {
-        return along(Becomes::Drop, context, FREE);
+    if q.slot == Slot::Dropped {
+        return along(Becomes::Drop, context, Slot::Free);
     }
-    along(kept(row), context, FREE)
+    along(kept(row), context, Slot::Free)
 }
 
 // Module 5: a captured `arguments`. `only`: the mode is AsyncOnly; `arguments`: that is its name.
 fn on_ident(q: Spot, row: Words, only: bool, arguments: bool) -> Act
-    ensures { (N : Names) (w : Target) (l : Bool) (o : ℕ) (i : Rows) → only ≡ async_only w → arguments ≡ named_arguments N row.name → Does w (context_of q.context) (act_of N w l (context_of q.context) q.slot o Kind.ident row.kind row.attr row.name i) result }
+    ensures { (N : Names) (w : Target) (l : Bool) (o : ℕ) (i : Rows) → only ≡ async_only w → arguments ≡ named_arguments N row.name → Does w (context_of q.context) (act_of N w l (context_of q.context) (slot_number q.slot) o Kind.ident row.kind row.attr row.name i) result }
 {
     let context = q.context;
     if only & arguments & context.takes_arguments {
         let op = Becomes::Name {
-            usage: 2,
+            usage: Capture::Arguments,
             frame: context.arguments_at,
         };
-        return along(op, context, FREE);
+        return along(op, context, Slot::Free);
     }
-    along(kept(row), context, FREE)
+    along(kept(row), context, Slot::Free)
 }
 
 // Module 4: `super.p` or `super[k]`. `sup`: its first child is Super.
 fn on_access(q: Spot, row: Words, sup: bool) -> Act
-    ensures { (N : Names) (w : Target) (l : Bool) (o : ℕ) (i : Rows) → sup ≡ first_super i → Does w (context_of q.context) (act_of N w l (context_of q.context) q.slot o Kind.access row.kind row.attr row.name i) result }
+    ensures { (N : Names) (w : Target) (l : Bool) (o : ℕ) (i : Rows) → sup ≡ first_super i → Does w (context_of q.context) (act_of N w l (context_of q.context) (slot_number q.slot) o Kind.access row.kind row.attr row.name i) result }
 {
     let context = q.context;
     let slot = q.slot;
-    if !(context.takes_super & sup & !(slot == OF_TARGET)) {
-        return along(kept(row), context, FREE);
+    if !(context.takes_super & sup & !(slot == Slot::OfTarget)) {
+        return along(kept(row), context, Slot::Free);
     }
-    if slot == DROPPED {
-        return along(Becomes::Drop, context, DROPPED);
+    if slot == Slot::Dropped {
+        return along(Becomes::Drop, context, Slot::Dropped);
     }
     let op = Becomes::Call {
-        usage: 3,
+        usage: Access::Get,
         frame: context.super_at,
         property: row.name,
-        called: slot == CALLEE,
+        called: slot == Slot::Callee,
     };
-    along(op, context, DROPPED)
+    along(op, context, Slot::Dropped)
 }
 
 // Module 4: the callee of a call. `access`: it is `super.p` or `super[k]`.
 fn on_call(q: Spot, row: Words, access: bool) -> Act
-    ensures { (N : Names) (w : Target) (l : Bool) (o : ℕ) (i : Rows) → access ≡ first_access i → Does w (context_of q.context) (act_of N w l (context_of q.context) q.slot o Kind.call row.kind row.attr row.name i) result }
+    ensures { (N : Names) (w : Target) (l : Bool) (o : ℕ) (i : Rows) → access ≡ first_access i → Does w (context_of q.context) (act_of N w l (context_of q.context) (slot_number q.slot) o Kind.call row.kind row.attr row.name i) result }
 {
     let context = q.context;
     if context.takes_super & access {
-        return along(kept(row), context, CALLEE);
+        return along(kept(row), context, Slot::Callee);
     }
-    along(kept(row), context, FREE)
+    along(kept(row), context, Slot::Free)
 }
 
 // Module 4: an assignment. `access`: its Target's child is `super.p` or `super[k]`, of that property.
 fn on_assign(q: Spot, row: Words, access: bool, property: usize) -> Act
-    ensures { (N : Names) (w : Target) (l : Bool) (o : ℕ) (i : Rows) → access ≡ first_access (first_inside i) → property ≡ first_name (first_inside i) → Does w (context_of q.context) (act_of N w l (context_of q.context) q.slot o Kind.assign row.kind row.attr row.name i) result }
+    ensures { (N : Names) (w : Target) (l : Bool) (o : ℕ) (i : Rows) → access ≡ first_access (first_inside i) → property ≡ first_name (first_inside i) → Does w (context_of q.context) (act_of N w l (context_of q.context) (slot_number q.slot) o Kind.assign row.kind row.attr row.name i) result }
 {
     let context = q.context;
     if context.takes_super & access {
         let op = Becomes::Call {
-            usage: 4,
+            usage: Access::Set,
             frame: context.super_at,
             property,
             called: false,
         };
-        return along(op, context, DROPPED);
+        return along(op, context, Slot::Dropped);
     }
-    along(kept(row), context, FREE)
+    along(kept(row), context, Slot::Free)
 }
 
 // Module 4: the Target of an assignment that is rewritten falls away.
 fn on_target(q: Spot, row: Words) -> Act
-    ensures { (N : Names) (w : Target) (l : Bool) (o : ℕ) (i : Rows) → Does w (context_of q.context) (act_of N w l (context_of q.context) q.slot o Kind.target row.kind row.attr row.name i) result }
+    ensures { (N : Names) (w : Target) (l : Bool) (o : ℕ) (i : Rows) → Does w (context_of q.context) (act_of N w l (context_of q.context) (slot_number q.slot) o Kind.target row.kind row.attr row.name i) result }
 {
     let context = q.context;
-    if q.slot == DROPPED {
-        return along(Becomes::Drop, context, DROPPED);
+    if q.slot == Slot::Dropped {
+        return along(Becomes::Drop, context, Slot::Dropped);
     }
-    along(kept(row), context, OF_TARGET)
+    along(kept(row), context, Slot::OfTarget)
 }
 
 // Any other row.
 fn on_other(q: Spot, row: Words) -> Act
-    ensures { (N : Names) (w : Target) (l : Bool) (o : ℕ) (i : Rows) → Does w (context_of q.context) (act_of N w l (context_of q.context) q.slot o Kind.other row.kind row.attr row.name i) result }
+    ensures { (N : Names) (w : Target) (l : Bool) (o : ℕ) (i : Rows) → Does w (context_of q.context) (act_of N w l (context_of q.context) (slot_number q.slot) o Kind.other row.kind row.attr row.name i) result }
 {
-    along(kept(row), q.context, FREE)
+    along(kept(row), q.context, Slot::Free)
 }
 
 // Module 6: an Arrow. Enabled makes a Function of one that is not async.
 pub fn on_arrow(q: Spot, row: Words, switches: Switches) -> Act
-    ensures { (N : Names) (l : Bool) (o : ℕ) (i : Rows) → Does (switches_of switches) (context_of q.context) (act_of N (switches_of switches) l (context_of q.context) q.slot o Kind.arrow row.kind row.attr row.name i) result }
+    ensures { (N : Names) (l : Bool) (o : ℕ) (i : Rows) → Does (switches_of switches) (context_of q.context) (act_of N (switches_of switches) l (context_of q.context) (slot_number q.slot) o Kind.arrow row.kind row.attr row.name i) result }
 {
     let attr = row.attr;
     let context = q.context.in_arrow(switches, attr);
     let asynchronous = has_bit(1, attr);
     let expression = has_bit(2, attr);
     if !switches.is_enabled() | asynchronous {
-        return inside(kept(row), context, FREE, context, FREE);
+        return inside(kept(row), context, Slot::Free, context, Slot::Free);
     }
     let op = Becomes::Row {
         kind: FUNCTION,
@@ -202,60 +202,60 @@ pub fn on_arrow(q: Spot, row: Words, switches: Switches) -> Act
         name: 0,
     };
     if expression {
-        return inside(op, context, FREE, context, WRAPPED);
+        return inside(op, context, Slot::Free, context, Slot::Wrapped);
     }
-    inside(op, context, FREE, context, FREE)
+    inside(op, context, Slot::Free, context, Slot::Free)
 }
 
 // A Function: its Params and its Body. `late`: of a constructor, a Super is left in place.
 pub fn on_function(q: Spot, row: Words, switches: Switches, at: usize, late: bool) -> Act
-    ensures { (N : Names) (i : Rows) → Does (switches_of switches) (context_of q.context) (act_of N (switches_of switches) late (context_of q.context) q.slot at Kind.function row.kind row.attr row.name i) result }
+    ensures { (N : Names) (i : Rows) → Does (switches_of switches) (context_of q.context) (act_of N (switches_of switches) late (context_of q.context) (slot_number q.slot) at Kind.function row.kind row.attr row.name i) result }
 {
     let attr = row.attr;
     let context = q.context;
-    let method = q.slot == OF_METHOD;
+    let method = q.slot == Slot::OfMethod;
     let params = context.in_params(switches, at, attr, method);
     let body = context.in_body(switches, at, attr, method);
     if late {
-        return inside(kept(row), params, FREE, body, LATE_BODY);
+        return inside(kept(row), params, Slot::Free, body, Slot::LateBody);
     }
-    inside(kept(row), params, FREE, body, BODY_OF)
+    inside(kept(row), params, Slot::Free, body, Slot::BodyOf)
 }
 
 // A Method or Property: "Method-like: last child of a Method, or of a Property with bit 1."
 fn on_keyed(q: Spot, row: Words) -> Act
-    ensures { (N : Names) (w : Target) (l : Bool) (o : ℕ) (i : Rows) → Does w (context_of q.context) (act_of N w l (context_of q.context) q.slot o Kind.keyed row.kind row.attr row.name i) result }
+    ensures { (N : Names) (w : Target) (l : Bool) (o : ℕ) (i : Rows) → Does w (context_of q.context) (act_of N w l (context_of q.context) (slot_number q.slot) o Kind.keyed row.kind row.attr row.name i) result }
 {
     let context = q.context;
     let keyed = has_bit(1, row.attr);
     let method = (row.kind == METHOD) | has_bit(2, row.attr);
     if !method {
-        return inside(kept(row), context, FREE, context, FREE);
+        return inside(kept(row), context, Slot::Free, context, Slot::Free);
     }
     if keyed {
-        return inside(kept(row), context, FREE, context, OF_METHOD);
+        return inside(kept(row), context, Slot::Free, context, Slot::OfMethod);
     }
-    inside(kept(row), context, OF_METHOD, context, OF_METHOD)
+    inside(kept(row), context, Slot::OfMethod, context, Slot::OfMethod)
 }
 
 // A Field: its computed key is outside, its value is not.
 fn on_field(q: Spot, row: Words, switches: Switches, at: usize) -> Act
-    ensures { (N : Names) (l : Bool) (i : Rows) → Does (switches_of switches) (context_of q.context) (act_of N (switches_of switches) l (context_of q.context) q.slot at Kind.field row.kind row.attr row.name i) result }
+    ensures { (N : Names) (l : Bool) (i : Rows) → Does (switches_of switches) (context_of q.context) (act_of N (switches_of switches) l (context_of q.context) (slot_number q.slot) at Kind.field row.kind row.attr row.name i) result }
 {
     let context = q.context;
     let value = context.in_value(switches, at);
     if has_bit(1, row.attr) {
-        return inside(kept(row), context, FREE, value, FREE);
+        return inside(kept(row), context, Slot::Free, value, Slot::Free);
     }
-    inside(kept(row), value, FREE, value, FREE)
+    inside(kept(row), value, Slot::Free, value, Slot::Free)
 }
 
 // A StaticBlock.
 fn on_static(q: Spot, row: Words, switches: Switches, at: usize) -> Act
-    ensures { (N : Names) (l : Bool) (i : Rows) → Does (switches_of switches) (context_of q.context) (act_of N (switches_of switches) l (context_of q.context) q.slot at Kind.static row.kind row.attr row.name i) result }
+    ensures { (N : Names) (l : Bool) (i : Rows) → Does (switches_of switches) (context_of q.context) (act_of N (switches_of switches) l (context_of q.context) (slot_number q.slot) at Kind.static row.kind row.attr row.name i) result }
 {
     let context = q.context.in_static(switches, at);
-    inside(kept(row), context, FREE, context, FREE)
+    inside(kept(row), context, Slot::Free, context, Slot::Free)
 }
 
 // What is done with a row of these words at row `at`. `late`: of a constructor, a Super is left in
@@ -270,44 +270,21 @@ pub fn decide(
     arguments: bool,
 ) -> Act
     ensures { (N : Names) (i : Rows) → Seen i below → (row.kind ≡ 11 → arguments ≡ named_arguments N row.name)
-        → Does (switches_of switches) (context_of q.context) (act N (switches_of switches) late (context_of q.context) q.slot at row.kind row.attr row.name i) result }
+        → Does (switches_of switches) (context_of q.context) (act N (switches_of switches) late (context_of q.context) (slot_number q.slot) at row.kind row.attr row.name i) result }
 {
-    let kind = row.kind;
-    if kind == THIS {
-        return on_this(q, row);
+    match row.kind {
+        THIS => on_this(q, row),
+        SUPER => on_super(q, row),
+        IDENT => on_ident(q, row, switches.is_async_only(), arguments),
+        MEMBER | COMPUTED => on_access(q, row, below.first_super),
+        CALL => on_call(q, row, below.first_access),
+        ASSIGN => on_assign(q, row, below.deep_access, below.deep_name),
+        ARROW => on_arrow(q, row, switches),
+        FUNCTION => on_function(q, row, switches, at, late),
+        METHOD | PROPERTY => on_keyed(q, row),
+        FIELD => on_field(q, row, switches, at),
+        STATIC_BLOCK => on_static(q, row, switches, at),
+        TARGET => on_target(q, row),
+        _ => on_other(q, row),
     }
-    if kind == SUPER {
-        return on_super(q, row);
-    }
-    if kind == IDENT {
-        return on_ident(q, row, switches.is_async_only(), arguments);
-    }
-    if (kind == MEMBER) | (kind == COMPUTED) {
-        return on_access(q, row, below.first_super);
-    }
-    if kind == CALL {
-        return on_call(q, row, below.first_access);
-    }
-    if kind == ASSIGN {
-        return on_assign(q, row, below.deep_access, below.deep_name);
-    }
-    if kind == ARROW {
-        return on_arrow(q, row, switches);
-    }
-    if kind == FUNCTION {
-        return on_function(q, row, switches, at, late);
-    }
-    if (kind == METHOD) | (kind == PROPERTY) {
-        return on_keyed(q, row);
-    }
-    if kind == FIELD {
-        return on_field(q, row, switches, at);
-    }
-    if kind == STATIC_BLOCK {
-        return on_static(q, row, switches, at);
-    }
-    if kind == TARGET {
-        return on_target(q, row);
-    }
-    on_other(q, row)
 }

@@ -6,6 +6,8 @@ ghost use Rattle.acts.specs.View.{switches_of, context_of};
 
 use crate::switches::Switches;
 
+// Three flags and three rows, not three pairs: the rules set them apart from one another, as `in_value` the
+// flag of `this` alone and `in_static` the row of `super` alone.
 #[derive(Clone, Copy)]
 pub struct Context {
     pub this_at: usize,

@@ -1,6 +1,6 @@
 // The three switches of the target.
 ghost use Rattle.std.specs.Prelude.{◌≡◌, ℕ, ◌≤◌};
-ghost use Rattle.steps.specs.Mode.{bit, enabled, async_only, moved_function, moved_arrow};
+ghost use Rattle.steps.specs.Mode.{bit, mode_of, enabled, async_only, moved_function, moved_arrow};
 ghost use Rattle.acts.specs.View.{switches_of};
 
 use steps::ArrowFunctionConverter;
@@ -21,6 +21,19 @@ pub fn has_bit(j: usize, attr: usize) -> bool
 }
 
 impl Switches {
+    // What they say.
+    fn converter(self) -> ArrowFunctionConverter
+        ensures mode { result.mode ≡ mode_of (switches_of self) }
+        ensures async_to_generator { result.async_to_generator_enabled ≡ self.async_to_generator }
+        ensures async_generator_functions { result.async_generator_functions_enabled ≡ self.async_generator_functions }
+    {
+        ArrowFunctionConverter::new(
+            self.arrow_function,
+            self.async_to_generator,
+            self.async_generator_functions,
+        )
+    }
+
     // The mode is Enabled.
     pub fn is_enabled(self) -> bool
         ensures { result ≡ enabled (switches_of self) }
@@ -32,35 +45,22 @@ impl Switches {
     pub fn is_async_only(self) -> bool
         ensures { result ≡ async_only (switches_of self) }
     {
-        let converter = ArrowFunctionConverter::new(
-            self.arrow_function,
-            self.async_to_generator,
-            self.async_generator_functions,
-        );
-        converter.is_async_only()
+        self.converter().is_async_only()
     }
 
     // Whether the Function of that attr is moved.
     pub fn moves_function(self, attr: usize) -> bool
         ensures { result ≡ moved_function (switches_of self) attr }
     {
-        let converter = ArrowFunctionConverter::new(
-            self.arrow_function,
-            self.async_to_generator,
-            self.async_generator_functions,
-        );
-        converter.will_transform_async_function(has_bit(1, attr), has_bit(2, attr))
+        self.converter()
+            .will_transform_async_function(has_bit(1, attr), has_bit(2, attr))
     }
 
     // Whether the Arrow of that attr is moved. An Arrow is no generator.
     pub fn moves_arrow(self, attr: usize) -> bool
         ensures { result ≡ moved_arrow (switches_of self) attr }
     {
-        let converter = ArrowFunctionConverter::new(
-            self.arrow_function,
-            self.async_to_generator,
-            self.async_generator_functions,
-        );
-        converter.will_transform_async_function(has_bit(1, attr), false)
+        self.converter()
+            .will_transform_async_function(has_bit(1, attr), false)
     }
 }

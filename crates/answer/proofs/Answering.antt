@@ -2,53 +2,33 @@
 use mathlib.Core.Path.{◌≡◌, refl, sym, ap, subst, ◌∙◌}
 use mathlib.Core.Bool.{false, ◌&&◌, and-false}
 use mathlib.Core.List.{List, ◌++◌}
-use Prim.Native.Nat.{ℕ, ◌+◌, ◌/◌, ◌≤◌, ◌<◌}
+use Prim.Native.Nat.{ℕ, ◌/◌, ◌≤◌, ◌<◌}
 use native.Mathlib.Omega.{arith}
 use borrow.Author.Tests.{lt-leb}
 use lib.Dec.{leb}
 use lib.ListN.{length, drop}
+use Rattle.std.specs.Prelude.{Ok, Err, IsErrAnd}
 use Rattle.names.specs.Bytes.{bytes_of}
 use Rattle.names.proofs.Storing.{length-bytes}
 use Rattle.forest.specs.Forest.{size, flat, table}
 use Rattle.rows.specs.Refusals as checks
-use Rattle.rows.specs.Refusals.{checked}
-use Rattle.rows.specs.declared.Checked.{Checked}
-use Rattle.rows.specs.declared.Checked.TheVariants.{Sound, Malformed, BadName, BadRow, TooDeep, MadeBinding}
+use Rattle.rows.specs.Refusals.{Sound, checked}
+use Rattle.rows.specs.declared.Unsound.{Unsound}
 use Rattle.forest.proofs.Accepting.{length-flat}
 use Rattle.steps.specs.Mode.{Switches}
 use Rattle.steps.specs.Steps.{Result, steps}
 use Rattle.steps.specs.Outcome.{Outcome, Outcome.refused, names_of, records, unless_refused, within, outcome}
 use Rattle.steps.specs.Accepted.{Accepted}
-use Rattle.rows.proofs.Five.{fault-five}
 use Rattle.steps.proofs.Acceptance.{accepted_converts}
 use Rattle.output.specs.Output.{Done, Copied}
 use Rattle.output.proofs.Placing.{rows_bytes, records-bytes, whole, whole_copy}
 use Rattle.refusals.specs.Refused as turns
 use Rattle.refusals.specs.Refused.{turned_away}
 use Rattle.refusals.specs.declared.Refused.{Refused}
-use Rattle.refusals.specs.declared.Refused.TheVariants.{Not, SuperNotAllowed, FieldHolds, NamedArguments}
+use Rattle.answer.specs.Answer.{Answer, number_of, place_of, rows_of, bindings_of}
+use Rattle.answer.specs.declared.Refusal.TheVariants.{Unsound as NoTable, TurnedAway}
 use Rattle.answer.specs.Converting.{lent_room, outcome_of, Answers}
-use Rattle.refusals.proofs.Turning.{unless_turned, turned_outcome, accepted}
-
--- only Sound has number 0, and only Not
-pub sound-zero : (c : Checked) → checks.number_of c ≡ 0 → c ≡ Sound
-sound-zero Sound h = refl
-sound-zero Malformed h = absurd (omega arith)
-sound-zero (BadName name) h = absurd (omega arith)
-sound-zero (BadRow fault row) h = let least = (fault-five fault).0 in absurd (omega arith)
-sound-zero (TooDeep row) h = absurd (omega arith)
-sound-zero (MadeBinding row) h = absurd (omega arith)
-
-pub not-zero : (r : Refused) → turns.number_of r ≡ 0 → r ≡ Not
-not-zero Not h = refl
-not-zero (SuperNotAllowed row) h = absurd (omega arith)
-not-zero (FieldHolds row) h = absurd (omega arith)
-not-zero (NamedArguments row) h = absurd (omega arith)
-
--- what both checks leave is accepted: k and j are the numbers of their answers
-pub passes : (row_limit depth_limit : ℕ) (w : Switches) (rows names text : List ℕ) (c : Checked) (k : ℕ) (r : Refused) (j : ℕ) → c ≡ checked row_limit depth_limit rows names text → k ≡ checks.number_of c → k ≡ 0
-    → r ≡ turned_away (names_of names text) w (table rows) → j ≡ turns.number_of r → j ≡ 0 → Accepted row_limit depth_limit w rows names text
-passes row_limit depth_limit w rows names text c k r j qc qk zk qr qj zj = accepted w rows names text row_limit depth_limit (sym qc ∙ sound-zero c (sym qk ∙ zk)) (sym qr ∙ not-zero r (sym qj ∙ zj))
+use Rattle.refusals.proofs.Turning.{unless_turned, turned_outcome}
 
 -- a refusal writes nothing
 refusal_answers : (number place : ℕ) (out_rows out_bindings : List ℕ) → Answers (refused number place) number place 0 0 out_rows out_rows out_bindings out_bindings
@@ -60,37 +40,33 @@ as_refused : (o : Outcome) (out_rows out_bindings : List ℕ) (number place : �
 as_refused o out_rows out_bindings number place q =
     subst (λ (x : Outcome). Answers x number place 0 0 out_rows out_rows out_bindings out_bindings) (sym q) (refusal_answers number place out_rows out_bindings)
 
--- 1, 4, 21 to 25, 3 and 5
-unless-sound : (c : Checked) (other : Outcome) → (checks.number_of c ≡ 0 → ⊥) → unless_refused c other ≡ refused (checks.number_of c) (checks.place_for c)
-unless-sound Sound other n = absurd (n refl)
-unless-sound Malformed other n = refl
-unless-sound (BadName name) other n = refl
-unless-sound (BadRow fault row) other n = refl
-unless-sound (TooDeep row) other n = refl
-unless-sound (MadeBinding row) other n = refl
-
--- 6, 7 and 8
-unless_not : (r : Refused) (other : Outcome) → (turns.number_of r ≡ 0 → ⊥) → unless_turned r other ≡ refused (turns.number_of r) (turns.place_for r)
-unless_not Not other n = absurd (n refl)
-unless_not (SuperNotAllowed row) other n = refl
-unless_not (FieldHolds row) other n = refl
-unless_not (NamedArguments row) other n = refl
-
 -- under any limits
 module _ (row_limit depth_limit : ℕ) (w : Switches) (rows names text out_rows out_bindings : List ℕ) where
   abbrev U : Outcome
   U = outcome row_limit depth_limit w rows names text (lent_room out_rows out_bindings)
 
-  pub unsound : (c : Checked) → c ≡ checked row_limit depth_limit rows names text → (checks.number_of c ≡ 0 → ⊥) → Answers U (checks.number_of c) (checks.place_for c) 0 0 out_rows out_rows out_bindings out_bindings
+  -- 1, 4, 21 to 25, 3 and 5
+  unsound : (u : Unsound) → Err u ≡ checked row_limit depth_limit rows names text → Answers U (checks.unsound_number u) (checks.unsound_place u) 0 0 out_rows out_rows out_bindings out_bindings
   unfolding outcome
-  unsound c q n = as_refused U out_rows out_bindings (checks.number_of c) (checks.place_for c) (rw (← q) (unless-sound c _ n))
+  unsound u q = as_refused U out_rows out_bindings (checks.unsound_number u) (checks.unsound_place u) (rw (← q))
 
-  pub turned : checked row_limit depth_limit rows names text ≡ Sound → (r : Refused) → r ≡ turned_away (names_of names text) w (table rows) → (turns.number_of r ≡ 0 → ⊥)
+  -- as `?` passes it on
+  pub unsound_as : (u : Unsound) → Err u ≡ checked row_limit depth_limit rows names text → (a : Answer) → IsErrAnd a (λ e. e ≡ NoTable u)
+      → Answers U (number_of a) (place_of a) (rows_of a) (bindings_of a) out_rows out_rows out_bindings out_bindings
+  unsound_as u q (Ok c) h = absurd h
+  unsound_as u q (Err e) h = rw h (unsound u q)
+
+  pub turned : checked row_limit depth_limit rows names text ≡ Sound → (r : Refused) → Err r ≡ turned_away (names_of names text) w (table rows)
       → Answers U (turns.number_of r) (turns.place_for r) 0 0 out_rows out_rows out_bindings out_bindings
   unfolding outcome
-  turned s r q n =
+  turned s r q =
       as_refused U out_rows out_bindings (turns.number_of r) (turns.place_for r)
-      (rw s (sym (turned_outcome w rows names text _) ∙ ap (λ (x : Refused). unless_turned x (within (lent_room out_rows out_bindings) (steps (names_of names text) w (table rows)))) (sym q) ∙ unless_not r _ n))
+      (rw s (sym (turned_outcome w rows names text _) ∙ ap (λ (x : turns.Answer). unless_turned x (within (lent_room out_rows out_bindings) (steps (names_of names text) w (table rows)))) (sym q)))
+
+  pub turned_as : checked row_limit depth_limit rows names text ≡ Sound → (r : Refused) → Err r ≡ turned_away (names_of names text) w (table rows) → (a : Answer) → IsErrAnd a (λ e. e ≡ TurnedAway r)
+      → Answers U (number_of a) (place_of a) (rows_of a) (bindings_of a) out_rows out_rows out_bindings out_bindings
+  turned_as s r q (Ok c) h = absurd h
+  turned_as s r q (Err e) h = rw h (turned s r q)
 
 -- under the print room's
 module _ (w : Switches) (rows names text out_rows out_bindings : List ℕ) where

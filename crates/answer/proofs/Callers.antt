@@ -5,14 +5,13 @@ use mathlib.Core.List.{List}
 use Prim.Native.Nat.{ℕ, ◌≤◌}
 use native.Mathlib.Omega.{arith}
 use Rattle.rows.specs.Limits.{row_limit_of, depth_limit_of}
-use Rattle.rows.specs.Refusals.{checked}
-use Rattle.rows.specs.declared.Checked.{Checked}
-use Rattle.rows.specs.declared.Checked.TheVariants.{Sound}
+use Rattle.rows.specs.Refusals.{checked, Checked, Sound}
 use Rattle.steps.specs.Mode.{Switches}
 use Rattle.steps.specs.Outcome.{Outcome}
 use Rattle.steps.specs.Accepted.{Accepted}
 use Rattle.steps.proofs.Larger.{accepted_up, outcome-up}
 use Rattle.answer.specs.Converting.{lent_room, outcome_of, outcome_as, Answers}
+use Rattle.std.specs.Prelude.{Ok, Err, Result}
 
 -- the print room's limits are the larger
 rows_most : (tablet : Bool) → row_limit_of tablet ≤ 16384

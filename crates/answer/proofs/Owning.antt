@@ -9,9 +9,7 @@ use Rattle.names.specs.Words.{words}
 use Rattle.names.proofs.Storing.{front-words}
 use Rattle.forest.specs.Forest.{Rows, size, flat, rows_at, table}
 use Rattle.rows.specs.Limits.{row_limit_of, depth_limit_of}
-use Rattle.rows.specs.Refusals.{checked}
-use Rattle.rows.specs.declared.Checked.{Checked}
-use Rattle.rows.specs.declared.Checked.TheVariants.{Sound, Malformed, BadName, BadRow, TooDeep, MadeBinding}
+use Rattle.rows.specs.Refusals.{checked, Checked, Sound}
 use Rattle.forest.proofs.Accepting.{length-flat}
 use Rattle.forest.proofs.ReadBack.{read_back}
 use Rattle.steps.specs.Mode.{Switches}
@@ -24,6 +22,8 @@ use Rattle.rows.proofs.Five.{fault-five}
 use Rattle.steps.proofs.Acceptance.{Converted, converts, owner_rule}
 use Rattle.steps.proofs.Refusing.{RefusedBy, later-by}
 use Rattle.answer.specs.Converting.{lent_room, outcome_as, Answers, records_in, result_in, KeepsOwners, Converts}
+use Rattle.std.specs.Prelude.{Ok, Err}
+use Rattle.rows.specs.declared.Unsound.TheVariants.{Malformed, BadName, BadRow, TooDeep, MadeBinding}
 
 -- the records of bindings read back as those bindings
 records-back : (bs : List Binding) → records_in (records bs) ≡ bs
@@ -36,12 +36,12 @@ abbrev Numbered : Outcome → Type 0
 Numbered = RefusedBy (λ number. number ≡ 0 → ⊥)
 
 checked_numbered : (c : Checked) (o : Outcome) → Numbered o → Numbered (unless_refused c o)
-checked_numbered Sound o h = h
-checked_numbered Malformed o h = λ q. omega arith
-checked_numbered (BadName name) o h = λ q. omega arith
-checked_numbered (BadRow fault row) o h = λ q. let least = (fault-five fault).0 in omega arith
-checked_numbered (TooDeep row) o h = λ q. omega arith
-checked_numbered (MadeBinding row) o h = λ q. omega arith
+checked_numbered (Ok sound) o h = h
+checked_numbered (Err Malformed) o h = λ q. omega arith
+checked_numbered (Err (BadName name)) o h = λ q. omega arith
+checked_numbered (Err (BadRow fault row)) o h = λ q. let least = (fault-five fault).0 in omega arith
+checked_numbered (Err (TooDeep row)) o h = λ q. omega arith
+checked_numbered (Err (MadeBinding row)) o h = λ q. omega arith
 
 module _ (row_limit depth_limit : ℕ) (w : Switches) (rows names text out_rows out_bindings : List ℕ) where
   abbrev O : Outcome

@@ -6,24 +6,21 @@ use Prim.Native.Nat.{ℕ, ◌/◌, ◌≤◌, ◌<◌, ◌^◌}
 use native.Mathlib.Omega.{arith}
 use lib.Dec.{leb}
 use lib.ListN.{length}
+use Rattle.std.specs.Prelude.{Ok, Err}
 use Rattle.names.proofs.Storing.{length-bytes}
 use Rattle.forest.specs.Forest.{size, flat, table}
 use Rattle.rows.specs.Refusals as checks
-use Rattle.rows.specs.Refusals.{checked}
-use Rattle.rows.specs.declared.Checked.{Checked}
-use Rattle.rows.specs.declared.Checked.TheVariants.{Sound, Malformed, BadName, BadRow, TooDeep, MadeBinding}
+use Rattle.rows.specs.Refusals.{checked, Checked, Sound}
 use Rattle.forest.proofs.Accepting.{length-flat}
 use Rattle.rows.proofs.Answers as answers
-use Rattle.rows.proofs.Soundness.{sound}
 use Rattle.steps.specs.Mode.{Switches}
 use Rattle.steps.specs.Steps.{Result, steps}
 use Rattle.steps.specs.Outcome.{Outcome, Outcome.refused, Outcome.converted, names_of, records, unless_refused, within, outcome}
 use Rattle.steps.proofs.Acceptance.{Converted, converts, result_within, result_small}
 use Rattle.output.proofs.Placing.{records-bytes}
 use Rattle.refusals.specs.Refused as turns
-use Rattle.refusals.specs.Refused.{turned_away}
+use Rattle.refusals.specs.Refused.{Answer, turned_away}
 use Rattle.refusals.specs.declared.Refused.{Refused}
-use Rattle.refusals.specs.declared.Refused.TheVariants.{Not, SuperNotAllowed, FieldHolds, NamedArguments}
 use Rattle.answer.specs.Converting.{lent_room, place_in, Answers}
 use Rattle.refusals.proofs.Giving.{given}
 use Rattle.refusals.proofs.Turning as turning
@@ -34,19 +31,13 @@ room-place : (b : Bool) (ws vs : List ℕ) → place_in (cond b (converted ws vs
 room-place true ws vs = omega arith
 room-place false ws vs = omega arith
 
-turned_place : (r : Refused) (o : Outcome) → turns.place_for r ≤ 16384 → place_in o ≤ 16384 → place_in (unless_turned r o) ≤ 16384
-turned_place Not o h k = k
-turned_place (SuperNotAllowed row) o h k = h
-turned_place (FieldHolds row) o h k = h
-turned_place (NamedArguments row) o h k = h
+turned_place : (a : Answer) (o : Outcome) → ((r : Refused) → a ≡ Err r → turns.place_for r ≤ 16384) → place_in o ≤ 16384 → place_in (unless_turned a o) ≤ 16384
+turned_place (Ok u) o h k = k
+turned_place (Err r) o h k = h r refl
 
 checked-place : (c : Checked) (o : Outcome) → checks.place_for c ≤ 16384 → (c ≡ Sound → place_in o ≤ 16384) → place_in (unless_refused c o) ≤ 16384
-checked-place Sound o h k = k refl
-checked-place Malformed o h k = omega arith
-checked-place (BadName name) o h k = h
-checked-place (BadRow fault row) o h k = h
-checked-place (TooDeep row) o h k = h
-checked-place (MadeBinding row) o h k = h
+checked-place (Ok sound) o h k = k refl
+checked-place (Err unsound) o h k = h
 
 module _ (row_limit depth_limit : ℕ) (w : Switches) (rows names text out_rows out_bindings : List ℕ) where
   abbrev O : Outcome

@@ -1,30 +1,37 @@
 -- The request's numbers for each answer of `convert` (docs/FORMAT.md, "Converting"). "Every refusal has zero counts"; "An acceptance has number 0, place 0". Assumes nothing.
-use Rattle.std.specs.Prelude.{ℕ}
+use Rattle.std.specs.Prelude.{ℕ, Result, Ok, Err}
 use Rattle.rows.specs.Refusals as checks
 use Rattle.refusals.specs.Refused as turns
 use Rattle.answer.specs.declared.Converted.{Converted}
-use Rattle.answer.specs.declared.Converted.TheVariants.{Unsound, TurnedAway, NoRoom, Done}
+use Rattle.answer.specs.declared.Refusal.{Refusal}
+use Rattle.answer.specs.declared.Refusal.TheVariants.{Unsound, TurnedAway, NoRoom}
 
-abbrev pub number_of : Converted → ℕ
-number_of (Unsound checked) = checks.number_of checked
-number_of (TurnedAway refused) = turns.number_of refused
-number_of NoRoom = 9
-number_of (Done rows bindings) = 0
+-- what a call of `convert` answers
+abbrev pub Answer : Type 0
+Answer = Result Converted Refusal
 
-abbrev pub place_of : Converted → ℕ
-place_of (Unsound checked) = checks.place_for checked
-place_of (TurnedAway refused) = turns.place_for refused
-place_of NoRoom = 0
-place_of (Done rows bindings) = 0
+abbrev pub refusal_number : Refusal → ℕ
+refusal_number (Unsound unsound) = checks.unsound_number unsound
+refusal_number (TurnedAway refused) = turns.number_of refused
+refusal_number NoRoom = 9
 
-abbrev pub rows_of : Converted → ℕ
-rows_of (Unsound checked) = 0
-rows_of (TurnedAway refused) = 0
-rows_of NoRoom = 0
-rows_of (Done rows bindings) = rows
+abbrev pub refusal_place : Refusal → ℕ
+refusal_place (Unsound unsound) = checks.unsound_place unsound
+refusal_place (TurnedAway refused) = turns.place_for refused
+refusal_place NoRoom = 0
 
-abbrev pub bindings_of : Converted → ℕ
-bindings_of (Unsound checked) = 0
-bindings_of (TurnedAway refused) = 0
-bindings_of NoRoom = 0
-bindings_of (Done rows bindings) = bindings
+abbrev pub number_of : Answer → ℕ
+number_of (Ok converted) = 0
+number_of (Err refusal) = refusal_number refusal
+
+abbrev pub place_of : Answer → ℕ
+place_of (Ok converted) = 0
+place_of (Err refusal) = refusal_place refusal
+
+abbrev pub rows_of : Answer → ℕ
+rows_of (Ok converted) = converted.rows
+rows_of (Err refusal) = 0
+
+abbrev pub bindings_of : Answer → ℕ
+bindings_of (Ok converted) = converted.bindings
+bindings_of (Err refusal) = 0

@@ -13,12 +13,10 @@ use Rattle.names.specs.Names.{start_of, length_of, bytes_of, arguments_bytes, Go
 use Rattle.names.proofs.GoodNames.{good-name}
 use Rattle.letters.specs.Characters.{first_width, first_code}
 use Rattle.letters.proofs.Casing.{capital-short}
+use Rattle.std.specs.Prelude.{Option, Some, None, Ok}
 use Rattle.base_text.specs.Bindings.{role_of, property_number, property_of}
 use Rattle.base_text.specs.Bases.{base_of, with_property, text_for, property_ok}
 use Rattle.base_text.specs.Refusals.{front_of, fault_of, base_text}
-use Rattle.base_text.specs.declared.Property.{Property}
-use Rattle.base_text.specs.declared.Property.TheVariants.{Named, Absent}
-use Rattle.base_text.specs.declared.Tested.{Tested}
 use Rattle.base_text.proofs.FirstCharacter.{some_width}
 use Rattle.base_text.proofs.Checking.{fronted, faultless, property-ok, NameAt, name-at}
 
@@ -26,7 +24,7 @@ either : (b : Bool) (x y : List ℕ) → length x ≤ 13 → length y ≤ 13 →
 either true x y p q = p
 either false x y p q = q
 
-base_short : (role : ℕ) → length (base_of role) ≤ 13
+pub base_short : (role : ℕ) → length (base_of role) ≤ 13
 unfolding base_of arguments_bytes
 base_short role =
     either (eqb role 1) _ _ (omega arith)
@@ -36,12 +34,12 @@ base_short role =
     (either (eqb role 5) _ _ (omega arith) (omega arith)))))
 
 -- the bytes of a good name
-record Good (s : List ℕ) : Type 0 where
-  some : 0 < length s
-  few : length s ≤ 255
-  spelled : utf8 s ≡ true
+pub record Good (s : List ℕ) : Type 0 where
+  pub some : 0 < length s
+  pub few : length s ≤ 255
+  pub spelled : utf8 s ≡ true
 
-good-bytes : (names text : List ℕ) (k : ℕ) → NameAt names text k → Good (bytes_of names text k)
+pub good-bytes : (names text : List ℕ) (k : ℕ) → NameAt names text k → Good (bytes_of names text k)
 unfolding bytes_of
 good-bytes names text k n =
     let g : GoodName names text k = good-name names text k n.good in
@@ -58,11 +56,11 @@ with-short base s l g =
     let few = g.few in
     simp (length-append, length-drop) (omega (arith, w))
 
-for_short : (base names text : List ℕ) (p : Property) → length base ≤ 13 → property_ok names text p ≡ true → length (text_for base names text p) ≤ 270
-for_short base names text (Named k) l h = with-short base (bytes_of names text k) l (good-bytes names text k (name-at names text k h))
-for_short base names text Absent l h = omega arith
+for_short : (base names text : List ℕ) (p : Option ℕ) → length base ≤ 13 → property_ok names text p ≡ true → length (text_for base names text p) ≤ 270
+for_short base names text (Some k) l h = with-short base (bytes_of names text k) l (good-bytes names text k (name-at names text k h))
+for_short base names text None l h = omega arith
 
-pub text_short : (number : ℕ) (bindings names text : List ℕ) → front_of bindings names text ≡ Tested.Passed → fault_of number bindings names text ≡ Tested.Passed → length (base_text number bindings names text) ≤ 270
+pub text_short : (number : ℕ) (bindings names text : List ℕ) → front_of bindings names text ≡ Ok tt → fault_of number bindings names text ≡ Ok tt → length (base_text number bindings names text) ≤ 270
 unfolding base_text
 text_short number bindings names text a b =
     let p = property_number bindings number in

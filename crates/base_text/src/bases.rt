@@ -1,40 +1,21 @@
 // The bases.
-ghost use Rattle.std.specs.Prelude.{ℕ};
-ghost use Rattle.base_text.specs.Bases.{PartOf};
+ghost use Rattle.std.specs.Prelude.{◌≡◌};
+ghost use Rattle.base_text.specs.Bindings.{number_of_role};
+ghost use Rattle.base_text.specs.Bases.{base_of};
 
-use crate::bindings::{ARGUMENTS, GET, PROP, SET, THIS};
-
-// A part of the bases, which stand one after the other.
-#[derive(Clone, Copy)]
-pub struct Part {
-    pub from: usize,
-    pub count: usize,
-}
+use crate::bindings::Role;
 
 // The base of a binding, by its use.
-pub fn base_of(role: usize) -> Part
-    ensures { PartOf role result.from result.count }
+#[tactic(auto, unfolding(crate::specs::Bases::base_of, names::specs::Names::arguments_bytes))]
+pub fn base_of(role: Role) -> &'static [u8]
+    ensures { result.now ≡ base_of (number_of_role role) }
 {
-    if role == THIS {
-        return Part { from: 0, count: 4 };
+    match role {
+        Role::This => b"this",
+        Role::Arguments => b"arguments",
+        Role::Get => b"superprop_get",
+        Role::Set => b"superprop_set",
+        Role::Prop => b"prop",
+        Role::Value => b"value",
     }
-    if role == ARGUMENTS {
-        return Part { from: 4, count: 9 };
-    }
-    if role == GET {
-        return Part {
-            from: 13,
-            count: 13,
-        };
-    }
-    if role == SET {
-        return Part {
-            from: 26,
-            count: 13,
-        };
-    }
-    if role == PROP {
-        return Part { from: 39, count: 4 };
-    }
-    Part { from: 43, count: 5 }
 }

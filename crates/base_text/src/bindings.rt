@@ -1,22 +1,41 @@
 // The record of a binding. Refusal 11.
-ghost use Rattle.std.specs.Prelude.{◌≡◌, ℕ, ◌*◌, ◌/◌, ◌<◌, ◌≤◌, length};
-ghost use Rattle.base_text.specs.Bindings.{record_bytes, most_records, role_of, property_number, property_of, record_ok, binding_ok};
+ghost use Rattle.std.specs.Prelude.{◌≡◌, ℕ, ◌*◌, ◌≤◌, length, is_some};
+ghost use Rattle.base_text.specs.Bindings.{record_bytes, most_records, record_ok, binding_ok, Decodes, HoldsRecord, HoldsBinding};
 
-use crate::Property;
 use names::words::cell;
 
 // The uses of a binding.
-pub const THIS: usize = 1;
+#[derive(Clone, Copy)]
+pub enum Role {
+    This,
+    Arguments,
+    Get,
+    Set,
+    Prop,
+    Value,
+}
 
-pub const ARGUMENTS: usize = 2;
+// A number that stands for no use.
+#[derive(Clone, Copy)]
+pub struct UnknownRole;
 
-pub const GET: usize = 3;
+impl TryFrom<usize> for Role {
+    type Error = UnknownRole;
 
-pub const SET: usize = 4;
+    ghost try_from_gives = { Decodes };
 
-pub const PROP: usize = 5;
-
-pub const VALUE: usize = 6;
+    fn try_from(number: usize) -> Result<Role, UnknownRole> {
+        match number {
+            1 => Ok(Role::This),
+            2 => Ok(Role::Arguments),
+            3 => Ok(Role::Get),
+            4 => Ok(Role::Set),
+            5 => Ok(Role::Prop),
+            6 => Ok(Role::Value),
+            _ => Err(UnknownRole),
+        }
+    }
+}
 
 // How many words a record has: use, property, frame.
 const RECORD_WORDS: usize = 3;
@@ -29,51 +48,49 @@ pub const MOST_RECORDS: usize = 65535;
 // The last row that a frame can be.
 const LAST_ROW: usize = 16383;
 
-// The use of binding i, from 1.
-pub fn role_of(bindings: &[u8], i: usize) -> usize
-    requires { (0 < i) × (record_bytes * i ≤ length bindings.now) × (i ≤ most_records) }
-    ensures { result ≡ role_of bindings.now i }
-{
-    cell(bindings, RECORD_WORDS * (i - 1))
+// A binding, and the number of its property's name, from 1, if it has a property.
+#[derive(Clone, Copy)]
+pub struct Binding {
+    pub role: Role,
+    pub property: Option<usize>,
 }
 
-// Its property.
-pub fn property_of(bindings: &[u8], i: usize) -> Property
-    requires { (0 < i) × (record_bytes * i ≤ length bindings.now) × (i ≤ most_records) }
-    ensures { result ≡ property_of (property_number bindings.now i) }
-{
-    let p = cell(bindings, RECORD_WORDS * (i - 1) + 1);
-    if p == 0 {
-        return Property::Absent;
+impl Binding {
+    // The binding of a record with these words, if that is as it must be with so many names.
+    fn new(role: usize, property: usize, frame: usize, names: usize) -> Option<Binding>
+        ensures { HoldsRecord names role property frame result }
+    {
+        let role = Role::try_from(role).ok()?;
+        if LAST_ROW < frame {
+            return None;
+        }
+        if property == 0 {
+            return Some(Binding {
+                role,
+                property: None,
+            });
+        }
+        if names < property || !matches!(role, Role::Get | Role::Set) {
+            return None;
+        }
+        let property = Some(property);
+        Some(Binding { role, property })
     }
-    Property::Named(p)
-}
 
-fn record_ok(names: usize, role: usize, property: usize, frame: usize) -> bool
-    ensures { result ≡ record_ok names role property frame }
-{
-    ((THIS <= role) & (role <= VALUE))
-        & (property <= names)
-        & ((property == 0) | (role == GET) | (role == SET))
-        & (frame <= LAST_ROW)
-}
-
-// Whether there is a binding i, from 1, and its record is as it must be with so many names.
-pub fn binding_ok(i: usize, bindings: &[u8], names: usize) -> bool
-    requires { length bindings.now ≤ most_records * record_bytes }
-    ensures { result ≡ binding_ok i bindings.now names }
-{
-    if i == 0 {
-        return false;
+    // Binding `number`, from 1, if there is one and its record is as it must be with so many names.
+    pub fn read(number: usize, bindings: &[u8], names: usize) -> Option<Binding>
+        requires { length bindings.now ≤ most_records * record_bytes }
+        ensures { HoldsBinding number bindings.now names result }
+    {
+        if number == 0 || bindings.len() / RECORD_BYTES < number {
+            return None;
+        }
+        let at = RECORD_WORDS * (number - 1);
+        Binding::new(
+            cell(bindings, at),
+            cell(bindings, at + 1),
+            cell(bindings, at + 2),
+            names,
+        )
     }
-    if bindings.len() / RECORD_BYTES < i {
-        return false;
-    }
-    let at = RECORD_WORDS * (i - 1);
-    record_ok(
-        names,
-        cell(bindings, at),
-        cell(bindings, at + 1),
-        cell(bindings, at + 2),
-    )
 }

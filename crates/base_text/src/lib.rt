@@ -9,18 +9,18 @@ mod head;
 mod spell;
 mod write;
 
-ghost use Rattle.std.specs.Prelude.{◌≡◌, Bool, ℕ, length};
+ghost use Rattle.std.specs.Prelude.{◌≡◌, Ok, ℕ, length};
 ghost use Rattle.base_text.specs.Bindings.{records_in};
-ghost use Rattle.base_text.specs.Refusals.{sizes_ok, front_of, base_text, text_answer, spelled, Told};
+ghost use Rattle.base_text.specs.Refusals.{number_of, place_of, sizes_ok, front_of, base_text, text_answer, spelled, Told};
 
-use bindings::{MOST_RECORDS, RECORD_BYTES};
-use names::Found;
+use bindings::{Binding, MOST_RECORDS, RECORD_BYTES};
 
-// The property of an accessor: the number of its name, from 1, or none.
+// A list of bindings over a table of names: the records, the pairs of the names, and the text that these are parts of.
 #[derive(Clone, Copy)]
-pub enum Property {
-    Named(usize),
-    Absent,
+pub struct Script<'a> {
+    pub bindings: &'a [u8],
+    pub names: &'a [u8],
+    pub text: &'a [u8],
 }
 
 // The refusals of base text, which the maker of names shares.
@@ -33,18 +33,30 @@ pub enum Refusal {
     NoRoom,
 }
 
-// Whether a test was passed.
-#[derive(Clone, Copy)]
-pub enum Tested {
-    Passed,
-    Refused(Refusal),
-}
+impl Refusal {
+    // The request's number of the refusal.
+    pub fn number(self) -> u32
+        ensures { result ≡ number_of self }
+    {
+        match self {
+            Refusal::Malformed => 1,
+            Refusal::BadName { name: _ } => 4,
+            Refusal::BadBinding { binding: _ } => 11,
+            Refusal::UnknownLetter { binding: _ } => 10,
+            Refusal::NoRoom => 9,
+        }
+    }
 
-// What base text answers.
-#[derive(Clone, Copy)]
-pub enum Spelling {
-    Written { bytes: u32 },
-    Refused(Refusal),
+    // Its place: the number of a name or of a binding, from 1, or 0.
+    pub fn place(self) -> u32
+        ensures { result ≡ place_of self }
+    {
+        match self {
+            Refusal::Malformed | Refusal::NoRoom => 0,
+            Refusal::BadName { name } => name,
+            Refusal::BadBinding { binding } | Refusal::UnknownLetter { binding } => binding,
+        }
+    }
 }
 
 // How many records a list of bindings has.
@@ -62,50 +74,37 @@ fn sizes_ok(bindings: usize, names: usize, text: usize) -> bool
 }
 
 // What is tested once for all bindings. Refusals 1 and 4.
-pub fn front(bindings: &[u8], names: &[u8], text: &[u8]) -> Tested
-    ensures { result ≡ front_of bindings.now names.now text.now }
+pub fn front(script: Script) -> Result<(), Refusal>
+    ensures { result ≡ front_of script.entry.bindings.now script.entry.names.now script.entry.text.now }
 {
-    if !sizes_ok(bindings.len(), names.len(), text.len()) {
-        return Tested::Refused(Refusal::Malformed);
+    if !sizes_ok(script.bindings.len(), script.names.len(), script.text.len()) {
+        return Err(Refusal::Malformed);
     }
-    let bad = names::first_bad_name(names, text);
-    if let Found::At(name) = bad {
-        return Tested::Refused(Refusal::BadName { name: name as u32 });
+    if let Some(name) = names::first_bad_name(script.names, script.text) {
+        return Err(Refusal::BadName { name: name as u32 });
     }
-    Tested::Passed
+    Ok(())
 }
 
-// Writes the text of binding `number`, from 1, to the front of `out`, of what passed `front`. Any answer
-// but Written leaves `out` as it was. Refusals 11, 10 and 9.
-pub fn text_of(number: u32, bindings: &[u8], names: &[u8], text: &[u8], out: &mut [u8]) -> Spelling
-    requires { front_of bindings.now names.now text.now ≡ Tested.Passed }
-    ensures { Told result (text_answer number bindings.now names.now text.now (length out.old))
-        (base_text number bindings.now names.now text.now) out.old out.new }
+// Writes the text of binding `number`, from 1, to the front of `out`, of what passed `front`, and answers how many bytes it
+// has. An error leaves `out` as it was. Refusals 11, 10 and 9.
+pub fn text_of(number: u32, script: Script, out: &mut [u8]) -> Result<u32, Refusal>
+    requires { front_of script.bindings.now script.names.now script.text.now ≡ Ok tt }
+    ensures { Told result (text_answer number script.entry.bindings.now script.entry.names.now script.entry.text.now (length out.old))
+        (base_text number script.entry.bindings.now script.entry.names.now script.entry.text.now) out.old out.new }
 {
-    let binding = number as usize;
-    if !bindings::binding_ok(binding, bindings, names.len() / 8) {
-        return Spelling::Refused(Refusal::BadBinding { binding: number });
-    }
-    let role = bindings::role_of(bindings, binding);
-    let property = bindings::property_of(bindings, binding);
-    spell::spell(number, role, property, names, text, out)
+    let binding = Binding::read(number as usize, script.bindings, script.names.len() / 8).ok_or(
+        Refusal::BadBinding { binding: number },
+    )?;
+    spell::spell(number, binding, script.names, script.text, out)
 }
 
-// Writes the text of binding `number`, from 1, to the front of `out`. Any answer but Written leaves
+// Writes the text of binding `number`, from 1, to the front of `out`, and answers how many bytes it has. An error leaves
 // `out` as it was.
-pub fn base_text(
-    number: u32,
-    bindings: &[u8],
-    names: &[u8],
-    text: &[u8],
-    out: &mut [u8],
-) -> Spelling
-    ensures { Told result (spelled number bindings.now names.now text.now (length out.old))
-        (base_text number bindings.now names.now text.now) out.old out.new }
+pub fn base_text(number: u32, script: Script, out: &mut [u8]) -> Result<u32, Refusal>
+    ensures { Told result (spelled number script.entry.bindings.now script.entry.names.now script.entry.text.now (length out.old))
+        (base_text number script.entry.bindings.now script.entry.names.now script.entry.text.now) out.old out.new }
 {
-    let tested = front(bindings, names, text);
-    if let Tested::Refused(refusal) = tested {
-        return Spelling::Refused(refusal);
-    }
-    text_of(number, bindings, names, text, out)
+    front(script)?;
+    text_of(number, script, out)
 }

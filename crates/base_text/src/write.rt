@@ -1,54 +1,23 @@
-// Copying into the bytes lent.
-ghost use Rattle.std.specs.Prelude.{◌≡◌, List, [], ◌∷◌, ◌++◌, ℕ, ◌+◌, ◌-◌, ◌≤◌, length, take, drop};
-ghost use Rattle.std.proofs.Math.Seq.{paste};
-ghost use Rattle.base_text.specs.Bases.{bases, base_part};
+// Writing into the bytes lent. Refusal 9.
+ghost use Rattle.std.specs.Prelude.{ℕ, ◌+◌, ◌^◌, ◌<◌, ◌++◌, length};
+ghost use Rattle.base_text.specs.Refusals.{fitted, Told};
 
-// Copies `count` bytes of src, from `from` on, to out, from `at` on.
-fn put(src: &[u8], from: usize, count: usize, out: &mut [u8], at: usize)
-    requires { (from + count ≤ length src.now) × (at + count ≤ length out.old) }
-    ensures { out.new ≡ paste out.old at (drop from src.now) count }
+use crate::Refusal;
+
+// Writes a base, the capitals of a first character and the rest of its text, one after the other, to the front of `out`,
+// and answers how many bytes they have.
+pub fn write(base: &[u8], capitals: &[u8], rest: &[u8], out: &mut [u8]) -> Result<u32, Refusal>
+    requires { length base.now + length capitals.now + length rest.now < 2 ^ 32 }
+    ensures { Told result (fitted (length out.old) (length (base.now ++ (capitals.now ++ rest.now)))) (base.now ++ (capitals.now ++ rest.now)) out.old out.new }
 {
-    let mut i: usize = 0;
-    while i < count {
-        out[at + i] = src[from + i];
-        i += 1;
+    let a = base.len();
+    let b = a + capitals.len();
+    let c = b + rest.len();
+    if out.len() < c {
+        return Err(Refusal::NoRoom);
     }
-}
-
-// A part of the bases, to the front.
-pub fn put_base(from: usize, count: usize, out: &mut [u8])
-    requires { (from + count ≤ 48) × (count ≤ length out.old) }
-    ensures { out.new ≡ paste out.old 0 (drop from bases) count }
-{
-    let bases = *b"thisargumentssuperprop_getsuperprop_setpropvalue";
-    put(&bases, from, count, out, 0);
-}
-
-// The first `count` of two bytes.
-fn put_two(first: u8, second: u8, count: usize, out: &mut [u8], at: usize)
-    requires { (count ≤ 2) × (at + count ≤ length out.old) }
-    ensures { out.new ≡ paste out.old at (first ∷ second ∷ []) count }
-{
-    let two = [first, second];
-    put(&two, 0, count, out, at);
-}
-
-// A part of the bases, the first character's bytes, and the rest of a text after its first
-// character, which is `width` bytes wide.
-pub fn put_all(
-    from: usize,
-    count: usize,
-    first: u8,
-    second: u8,
-    capitals: usize,
-    s: &[u8],
-    width: usize,
-    out: &mut [u8],
-)
-    requires { (from + count ≤ 48) × (capitals ≤ 2) × (width ≤ length s.now) × (count + capitals + (length s.now - width) ≤ length out.old) }
-    ensures { out.new ≡ (base_part from count ++ (take capitals (first ∷ second ∷ []) ++ drop width s.now)) ++ drop (count + capitals + (length s.now - width)) out.old }
-{
-    put_base(from, count, out);
-    put_two(first, second, capitals, out, count);
-    put(s, width, s.len() - width, out, count + capitals);
+    out[..a].copy_from_slice(base);
+    out[a..b].copy_from_slice(capitals);
+    out[b..c].copy_from_slice(rest);
+    Ok(c as u32)
 }

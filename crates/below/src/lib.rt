@@ -31,6 +31,9 @@ pub struct Below {
     pub deep_name: usize,
 }
 
+// One function for each word of a row, here and below: each has a definition of its own, and one over the
+// word's place would be no plainer.
+
 // The kind of row i.
 pub fn kind_at(rows: &[u8], i: usize) -> usize
     requires { 16 * i + 15 < length rows.now }
@@ -93,7 +96,7 @@ fn descend(rows: &[u8], i: usize) -> Levels
     let inner = child + 1;
     if end_at(rows, child) <= inner {
         return Levels {
-            one: one,
+            one,
             two: 0,
             three: 0,
             name: 0,
@@ -103,10 +106,10 @@ fn descend(rows: &[u8], i: usize) -> Levels
     let name = name_at(rows, inner);
     let three = first_kind(rows, inner);
     Levels {
-        one: one,
-        two: two,
-        three: three,
-        name: name,
+        one,
+        two,
+        three,
+        name,
     }
 }
 

@@ -1,6 +1,8 @@
 -- The bindings in the first ten tables of a local array, of cap entries each (behind them two more, Filed.antt): the record's three words and the next of its chain, by binding number; the capture of `this` and of `arguments`,
 -- the first and last accessor and the first and last parameter, by frame. So that no number is searched for in the whole list. Assumes nothing.
 use Rattle.std.specs.Prelude.{◌≡◌, List, [], ◌∷◌, ℕ, zero, suc, ◌+◌, ◌*◌, ◌≤◌, ◌<◌, Bool, true, cond, get_or, length, drop, set, eqb}
+use Rattle.std.specs.Coded.{×_prop, →_prop, Unit-prop}
+use Rattle.std.proofs.Math.Nat.{ℕ_set}
 use Rattle.steps.specs.Bindings.{Binding, Binding.bind}
 use Rattle.buckets.specs.Search.{first_where, last_where}
 use Rattle.bindings.specs.Search.{capture_of, of_class}
@@ -37,10 +39,31 @@ last_table param cap f = cond param (9 * cap + f) (7 * cap + f)
 abbrev pub capture_table : (cap u f : ℕ) → ℕ
 capture_table cap u f = cond (eqb u 1) (4 * cap + f) (5 * cap + f)
 
+-- what stands there: a frame's captures, its first accessor or parameter, and the next of a chain; 0 is none
+abbrev pub this_at : List ℕ → (cap f : ℕ) → ℕ
+this_at M cap f = get_or M (4 * cap + f) 0
+
+abbrev pub arguments_at : List ℕ → (cap f : ℕ) → ℕ
+arguments_at M cap f = get_or M (5 * cap + f) 0
+
+abbrev pub capture_at : List ℕ → (cap u f : ℕ) → ℕ
+capture_at M cap u f = get_or M (capture_table cap u f) 0
+
+abbrev pub first_at : List ℕ → (param : Bool) (cap f : ℕ) → ℕ
+first_at M param cap f = get_or M (first_table param cap f) 0
+
+abbrev pub next_at : List ℕ → (cap b : ℕ) → ℕ
+next_at M cap b = get_or M (3 * cap + b) 0
+
 -- captures have no property
 abbrev pub Bare : List Binding → Type 0
 Bare [] = Unit {0}
 Bare (bind u x f ∷ bs) = ((u ≤ 2) → x ≡ 0) × Bare bs
+
+-- that is a fact with one proof at most
+pub Bare-prop : (bs : List Binding) → IsProp (Bare bs)
+Bare-prop [] = Unit-prop
+Bare-prop (bind u x f ∷ bs) = ×_prop (→_prop (ℕ_set _ _)) (Bare-prop bs)
 
 -- the array holds these count bindings, and its tables are right
 pub record Store (M : List ℕ) (cap count : ℕ) : Type 0 where

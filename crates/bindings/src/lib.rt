@@ -1,33 +1,66 @@
 // The bindings that are made, in a local array of twelve tables of `cap` words each. By binding number:
 // use, property, frame, and the next of its chain. By frame: the captures of `this` and of
 // `arguments`, the first and last accessor, the first and last parameter of accessors. By bucket: its
-// last accessor; by accessor: the one before it in its bucket.
+// last accessor; by accessor: the one before it in its bucket. No other crate knows what stands where:
+// the first walk makes bindings through a `Maker`, the second reads them through `Bindings` and `Frame`.
 
 #![tactic(auto)]
 
 pub mod frame;
+pub mod maker;
+pub mod view;
 
 ghost use Rattle.std.specs.Prelude.{◌≡◌, Bool, true, cond, ℕ, ◌+◌, ◌*◌, ◌<◌, ◌≤◌, List, [], ◌∷◌, ◌++◌, length, get_or, set};
 ghost use Rattle.spelling.specs.Spelling.{GivenNames};
 ghost use Rattle.steps.specs.Outcome.{names_of};
-ghost use Rattle.steps.specs.Bindings.{Binding, Binding.bind, is};
+ghost use Rattle.steps.specs.Bindings.{Binding, Binding.bind};
 ghost use Rattle.bindings.specs.Search.{is_param, is_accessor, one_param, params_for};
-ghost use Rattle.bindings.specs.Store.{Store, binds, bind_at, pushed, captured, chained, capture_table, first_table, last_table, link_table};
+ghost use Rattle.bindings.specs.Store.{binds, pushed, chained, last_table, link_table};
 ghost use Rattle.bindings.specs.Post.{Kept, Asked, Room};
 ghost use Rattle.bindings.specs.Filed.{behind, bucket_of};
 
-fn wide(x: u32) -> usize
-    ensures { result ≡ x }
-{
-    x as usize
+use buckets::pick;
+
+// What a binding is for, by the number that its record gives: a capture of `this` or of `arguments`, an
+// accessor that gets or sets, a parameter of one for a computed property or for the value.
+#[derive(Clone, Copy, PartialEq, Eq)]
+pub enum Use {
+    This = 1,
+    Arguments,
+    Get,
+    Set,
+    Prop,
+    Value,
 }
 
+// The words of a record: as many tables, by binding. Behind them stand the other tables.
+const RECORD: usize = 3;
+
+// By binding: the next of its chain.
+const NEXT: usize = RECORD;
+
+// By frame: its captures, the first accessor, the first parameter; behind either of these two the last.
+const THIS: usize = RECORD + 1;
+
+const ARGUMENTS: usize = RECORD + 2;
+
+const FIRST_ACCESSOR: usize = RECORD + 3;
+
+const LAST_ACCESSOR: usize = RECORD + 4;
+
+const FIRST_PARAM: usize = RECORD + 5;
+
+const LAST_PARAM: usize = RECORD + 6;
+
+// By bucket: its last accessor. Behind it, by binding, the accessor before it in its bucket.
+const BUCKETS: usize = RECORD + 7;
+
 // Word j of the array.
-pub fn entry(made: &[u32], j: usize) -> usize
+fn entry(made: &[u32], j: usize) -> usize
     requires { j < length made.now }
     ensures { result ≡ get_or made.now j 0 }
 {
-    wide(made[j])
+    made[j] as usize
 }
 
 // Writes the record of binding b.
@@ -40,34 +73,13 @@ fn push(made: &mut [u32], cap: usize, b: usize, u: u32, x: u32, f: usize)
     made[2 * cap + b] = f as u32;
 }
 
-fn capture_table(cap: usize, u: u32, f: usize) -> usize
-    requires { (f < cap) × (cap ≤ 16384) }
-    ensures { (result ≡ capture_table cap u f) × (result < 10 * cap) }
+// Word `at` of table `one` where `which`, else of table `other`.
+fn place(cap: usize, which: bool, one: usize, other: usize, at: usize) -> usize
+    requires tables { (one < 10) × (other < 10) }
+    requires bounds { (at < cap) × (cap ≤ 16384) }
+    ensures { (result ≡ cond which (one * cap + at) (other * cap + at)) × (result < 10 * cap) }
 {
-    if u == 1 {
-        return 4 * cap + f;
-    }
-    5 * cap + f
-}
-
-fn first_table(cap: usize, param: bool, f: usize) -> usize
-    requires { (f < cap) × (cap ≤ 16384) }
-    ensures { (result ≡ first_table param cap f) × (result < 10 * cap) }
-{
-    if param {
-        return 8 * cap + f;
-    }
-    6 * cap + f
-}
-
-fn last_table(cap: usize, param: bool, f: usize) -> usize
-    requires { (f < cap) × (cap ≤ 16384) }
-    ensures { (result ≡ last_table param cap f) × (result < 10 * cap) }
-{
-    if param {
-        return 9 * cap + f;
-    }
-    7 * cap + f
+    pick(which, one, other) * cap + at
 }
 
 fn link_table(cap: usize, param: bool, f: usize, last: usize) -> usize
@@ -75,26 +87,9 @@ fn link_table(cap: usize, param: bool, f: usize, last: usize) -> usize
     ensures { (result ≡ link_table param cap f last) × (result < 10 * cap) }
 {
     if last == 0 {
-        return first_table(cap, param, f);
+        return place(cap, param, FIRST_PARAM, FIRST_ACCESSOR, f);
     }
-    3 * cap + last
-}
-
-// Stores b at one place.
-fn put(made: &mut [u32], i: usize, b: usize)
-    requires { (i < length made.old) × (b < 16384) }
-    ensures { made.new ≡ set made.old i b }
-{
-    made[i] = b as u32;
-}
-
-// Stores b at two places.
-fn put_both(made: &mut [u32], i: usize, j: usize, b: usize)
-    requires { (i < length made.old) × ((j < length made.old) × (b < 16384)) }
-    ensures { made.new ≡ set (set made.old i b) j b }
-{
-    made[i] = b as u32;
-    made[j] = b as u32;
+    NEXT * cap + last
 }
 
 // Puts binding b behind the last of its chain.
@@ -103,22 +98,15 @@ fn chain(made: &mut [u32], cap: usize, param: bool, f: usize, b: usize)
     requires f_bound { get_or made.old (last_table param cap f) 0 < cap }
     ensures { made.new ≡ chained made.old cap param f b }
 {
-    let table = last_table(cap, param, f);
+    let table = place(cap, param, LAST_PARAM, LAST_ACCESSOR, f);
     let last = entry(made, table);
     let link = link_table(cap, param, f, last);
-    put_both(made, link, table, b);
+    made[link] = b as u32;
+    made[table] = b as u32;
 }
 
-// Binding count + 1, chained: an accessor (use 3 or 4) or a parameter of one (use 5 or 6).
-pub fn add(
-    made: &mut [u32],
-    cap: usize,
-    count: usize,
-    u: u32,
-    x: u32,
-    f: usize,
-    param: bool,
-) -> usize
+// Binding count + 1, chained: an accessor, or a parameter of one.
+fn add(made: &mut [u32], cap: usize, count: usize, u: u32, x: u32, f: usize, param: bool) -> usize
     requires room { Room made.old cap f count }
     requires u_value { cond param (is_param u) (is_accessor u) ≡ true }
     ensures kept { Kept made.new cap (binds made.old cap count ++ (bind u x f ∷ [])) result }
@@ -150,32 +138,15 @@ fn add_params(made: &mut [u32], cap: usize, count: usize, u: usize, x: usize, f:
     ensures kept { Kept made.new cap (binds made.old cap count ++ params_for u x f) result }
     ensures made_unchanged { behind cap made.new ≡ behind cap made.old }
 {
-    let computed = add_one(made, cap, count, x == 0, 5, f);
-    add_one(made, cap, computed, u == 4, 6, f)
-}
-
-// Whether binding b has that use, frame and property.
-fn is_it(
-    made: &[u32],
-    cap: usize,
-    names: &[u8],
-    text: &[u8],
-    b: usize,
-    u: usize,
-    f: usize,
-    x: usize,
-) -> bool
-    requires b_in_bounds { (2 * cap + b < length made.now) × (cap ≤ 16384) }
-    requires given_names { GivenNames names.now text.now }
-    ensures { result ≡ is (names_of names.now text.now) u f x (bind_at made.now cap b) }
-{
-    if entry(made, 2 * cap + b) != f {
-        return false;
-    }
-    if entry(made, b) != u {
-        return false;
-    }
-    spelling::same_name(names, text, entry(made, cap + b), x)
+    let computed = add_one(made, cap, count, x == 0, Use::Prop as u32, f);
+    add_one(
+        made,
+        cap,
+        computed,
+        u == Use::Set as usize,
+        Use::Value as u32,
+        f,
+    )
 }
 
 // The bucket of an accessor.
@@ -193,7 +164,7 @@ fn file(made: &mut [u32], cap: usize, h: usize, b: usize)
     requires { (length made.old ≡ 12 * cap) × ((b < cap) × ((h < cap) × (cap ≤ 16384))) }
     ensures { made.new ≡ set (set made.old (10 * cap + (cap + b)) (get_or made.old (10 * cap + h) 0)) (10 * cap + h) b }
 {
-    let last = 10 * cap + h;
-    made[10 * cap + (cap + b)] = made[last];
+    let last = BUCKETS * cap + h;
+    made[BUCKETS * cap + (cap + b)] = made[last];
     made[last] = b as u32;
 }

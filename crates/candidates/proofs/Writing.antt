@@ -8,50 +8,45 @@ use borrow.Author.Tests.{lt-ltb, le-ltb, eqb-true, eqb-false}
 use lib.Dec.{eqb}
 use lib.ListN.{length, take, drop}
 use lib.Seq.{take_at, take_all}
+use Rattle.std.specs.Prelude.{Result, Ok, Err, IsOk, is_ok}
 use Rattle.decimal.specs.Decimal.{decimal, Wrote}
 use Rattle.decimal.proofs.Writing.{then}
 use Rattle.base_text.specs.Bindings.{records_in}
-use Rattle.base_text.specs.Refusals.{count_of, front_of, fault_of, base_text, text_answer, Told}
+use Rattle.base_text.specs.Refusals.{unless, count_of, front_of, fault_of, base_text, text_answer, Told}
 use Rattle.base_text.specs.declared.Refusal.{Refusal}
-use Rattle.base_text.specs.declared.Tested.{Tested}
-use Rattle.base_text.specs.declared.Spelling.{Spelling}
 use Rattle.base_text.proofs.Checking.{fronted}
 use Rattle.base_text.proofs.Meaning.{told-written, told_refused}
 use Rattle.base_text.proofs.Short.{text_short}
 use Rattle.candidates.specs.Candidates.{tail_of, candidate}
-use Rattle.candidates.specs.Faults.{or_else, fault_from, first_fault, Sound, Stands}
+use Rattle.candidates.specs.Faults.{fault_from, first_fault, Sound, Stands}
 
 -- the count of a list is a small number
-pub few-records : (bindings names text : List ℕ) → front_of bindings names text ≡ Tested.Passed → records_in bindings ≤ 65535
+pub few-records : (bindings names text : List ℕ) → front_of bindings names text ≡ Ok tt → records_in bindings ≤ 65535
 few-records bindings names text f = let s = (fronted bindings names text f).sizes.records in omega arith
 
 -- what an answer tells of the fault
-abbrev refusal_in : Spelling → Tested
-refusal_in (Spelling.Written n) = Tested.Passed
-refusal_in (Spelling.Refused f) = Tested.Refused f
-
-abbrev is_passed : Tested → ℕ
-is_passed Tested.Passed = 1
-is_passed (Tested.Refused f) = 0
+abbrev refusal_in : Result ℕ Refusal → Result (Unit {0}) Refusal
+refusal_in (Ok n) = Ok tt
+refusal_in (Err f) = Err f
 
 -- one binding's base text, in room enough
-module _ (b : ℕ) (bindings names text : List ℕ) (front : front_of bindings names text ≡ Tested.Passed) where
+module _ (b : ℕ) (bindings names text : List ℕ) (front : front_of bindings names text ≡ Ok tt) where
   abbrev base : List ℕ
   base = base_text b bindings names text
 
-  module _ (fault : fault_of b bindings names text ≡ Tested.Passed) (room : ℕ) (r : Spelling) (before after : List ℕ) (lent : 272 ≤ room) (told : Told r (text_answer b bindings names text room) base before after) where
-    is-written : r ≡ Spelling.Written (length base)
+  module _ (fault : fault_of b bindings names text ≡ Ok tt) (room : ℕ) (r : Result ℕ Refusal) (before after : List ℕ) (lent : 272 ≤ room) (told : Told r (text_answer b bindings names text room) base before after) where
+    is-written : r ≡ Ok (length base)
     is-written = told-written b bindings names text room told fault (omega (arith, text_short b bindings names text front fault))
 
-    pub never-refused : (f : Refusal) → r ≡ Spelling.Refused f → ⊥
-    never-refused f e = let z : ◌≡◌ {A = ℕ} 1 0 = ap (λ (s : Spelling). is_passed (refusal_in s)) (sym is-written ∙ e) in absurd (omega arith)
+    pub accepted : IsOk r
+    accepted = ap is_ok is-written
 
-    pub stands : (n : ℕ) → r ≡ Spelling.Written n → Stands base n after
+    pub stands : (n : ℕ) → r ≡ Ok n → Stands base n after
     stands n e =
-        let q : Spelling.Written n ≡ Spelling.Written (length base) = sym e ∙ is-written in
+        let q : Ok n ≡ Ok (length base) = sym e ∙ is-written in
         let c : n ≡ length base = ap count_of q in
         let w : after ≡ base ++ drop n before =
-        told.bytes ∙ ap (λ (s : Spelling). take (count_of s) base ++ drop (count_of s) before) e ∙ ap (λ (l : List ℕ). l ++ drop n before) (take_all n base (omega arith)) in
+        told.bytes ∙ ap (λ (s : Result ℕ Refusal). take (count_of s) base ++ drop (count_of s) before) e ∙ ap (λ (l : List ℕ). l ++ drop n before) (take_all n base (omega arith)) in
         record { counted = c; front = ap (take n) w ∙ take_at base (drop n before) n (sym c); short = omega (arith, c, text_short b bindings names text front fault) }
 
 -- a made name, piece by piece
@@ -78,51 +73,51 @@ module _ {bindings names text : List ℕ} where
   testing_start = let z : records_in bindings + 1 - 1 ≡ records_in bindings = omega arith in record { low = omega arith; high = omega arith; same = rw z }
 
   module _ {b : ℕ} (t : Testing bindings names text b) where
-    pub testing-done : records_in bindings < b → Tested.Passed ≡ first_fault bindings names text
+    pub testing-done : records_in bindings < b → Ok tt ≡ first_fault bindings names text
     unfolding fault_from
     testing-done l = let h = t.high in let z : records_in bindings + 1 - b ≡ 0 = omega arith in sym (t.same ∙ rw z)
 
-    one : b ≤ records_in bindings → first_fault bindings names text ≡ or_else (fault_of b bindings names text) (fault_from bindings names text (b + 1) (records_in bindings + 1 - (b + 1)))
+    one : b ≤ records_in bindings → first_fault bindings names text ≡ unless (fault_of b bindings names text) (fault_from bindings names text (b + 1) (records_in bindings + 1 - (b + 1)))
     unfolding fault_from
     one l = let z : records_in bindings + 1 - b ≡ suc (records_in bindings + 1 - (b + 1)) = omega arith in t.same ∙ rw z
 
-    pub testing-next : b ≤ records_in bindings → fault_of b bindings names text ≡ Tested.Passed → Testing bindings names text (b + 1)
+    pub testing-next : b ≤ records_in bindings → fault_of b bindings names text ≡ Ok tt → Testing bindings names text (b + 1)
     testing-next l f = record { low = omega arith; high = omega arith; same = one l ∙ rw f }
 
-    pub testing-fault : (f : Refusal) → b ≤ records_in bindings → fault_of b bindings names text ≡ Tested.Refused f → Tested.Refused f ≡ first_fault bindings names text
+    pub testing-fault : (f : Refusal) → b ≤ records_in bindings → fault_of b bindings names text ≡ Err f → Err f ≡ first_fault bindings names text
     testing-fault f l e = sym (one l ∙ rw e)
 
 -- the answer of one binding in room enough tells its fault
-module _ (b : ℕ) (bindings names text : List ℕ) (front : front_of bindings names text ≡ Tested.Passed) (room : ℕ) (lent : 272 ≤ room) (r : Spelling) (w before after : List ℕ)
+module _ (b : ℕ) (bindings names text : List ℕ) (front : front_of bindings names text ≡ Ok tt) (room : ℕ) (lent : 272 ≤ room) (r : Result ℕ Refusal) (w before after : List ℕ)
     (told : Told r (text_answer b bindings names text room) w before after) where
   fault-told : fault_of b bindings names text ≡ refusal_in r
   fault-told = go (fault_of b bindings names text) refl
     where
-      go : (t : Tested) → fault_of b bindings names text ≡ t → t ≡ refusal_in r
-      go Tested.Passed e = sym (ap refusal_in (told-written b bindings names text room told e (omega (arith, text_short b bindings names text front e))))
-      go (Tested.Refused f) e = sym (ap refusal_in (told_refused b bindings names text room told e))
+      go : (t : Result (Unit {0}) Refusal) → fault_of b bindings names text ≡ t → t ≡ refusal_in r
+      go (Ok passed) e = sym (ap refusal_in (told-written b bindings names text room told e (omega (arith, text_short b bindings names text front e))))
+      go (Err f) e = sym (ap refusal_in (told_refused b bindings names text room told e))
 
-  pub told-fault : (f : Refusal) → r ≡ Spelling.Refused f → fault_of b bindings names text ≡ Tested.Refused f
+  pub told-fault : (f : Refusal) → r ≡ Err f → fault_of b bindings names text ≡ Err f
   told-fault f e = fault-told ∙ ap refusal_in e
 
-  pub told-passed : (n : ℕ) → r ≡ Spelling.Written n → fault_of b bindings names text ≡ Tested.Passed
+  pub told-passed : (n : ℕ) → r ≡ Ok n → fault_of b bindings names text ≡ Ok tt
   told-passed n e = fault-told ∙ ap refusal_in e
 
 -- what 11 and 10 leave of each binding
 module _ (bindings names text : List ℕ) where
-  none_from : (b n j : ℕ) → fault_from bindings names text b n ≡ Tested.Passed → b ≤ j → j < b + n → fault_of j bindings names text ≡ Tested.Passed
+  none_from : (b n j : ℕ) → fault_from bindings names text b n ≡ Ok tt → b ≤ j → j < b + n → fault_of j bindings names text ≡ Ok tt
   unfolding fault_from
   none_from b zero j e l k = absurd (omega arith)
   none_from b (suc n) j e l k = go (fault_of b bindings names text) refl e (λ z q. none_from (b + 1) n j z q (omega arith)) (eqb b j) refl
     where
-      go : (t : Tested) → fault_of b bindings names text ≡ t → or_else t (fault_from bindings names text (b + 1) n) ≡ Tested.Passed
-          → (fault_from bindings names text (b + 1) n ≡ Tested.Passed → b + 1 ≤ j → fault_of j bindings names text ≡ Tested.Passed) → (x : Bool) → eqb b j ≡ x → fault_of j bindings names text ≡ Tested.Passed
-      go (Tested.Refused f) q z ih x y = absurd (let w : ◌≡◌ {A = ℕ} 0 1 = ap is_passed z in omega arith)
-      go Tested.Passed q z ih true y = subst (λ (m : ℕ). fault_of m bindings names text ≡ Tested.Passed) (eqb-true b j y) q
-      go Tested.Passed q z ih false y = let n = eqb-false b j y in ih z (ne-above n)
+      go : (t : Result (Unit {0}) Refusal) → fault_of b bindings names text ≡ t → unless t (fault_from bindings names text (b + 1) n) ≡ Ok tt
+          → (fault_from bindings names text (b + 1) n ≡ Ok tt → b + 1 ≤ j → fault_of j bindings names text ≡ Ok tt) → (x : Bool) → eqb b j ≡ x → fault_of j bindings names text ≡ Ok tt
+      go (Err f) q z ih x y = cc
+      go (Ok passed) q z ih true y = subst (λ (m : ℕ). fault_of m bindings names text ≡ Ok tt) (eqb-true b j y) q
+      go (Ok passed) q z ih false y = let n = eqb-false b j y in ih z (ne-above n)
         where
           ne-above : (b ≡ j → ⊥) → b + 1 ≤ j
           ne-above n = omega arith
 
-  pub sound-at : Sound bindings names text → (b : ℕ) → 0 < b → b ≤ records_in bindings → fault_of b bindings names text ≡ Tested.Passed
+  pub sound-at : Sound bindings names text → (b : ℕ) → 0 < b → b ≤ records_in bindings → fault_of b bindings names text ≡ Ok tt
   sound-at s b p l = none_from 1 (records_in bindings) b s.faults (omega arith) (omega arith)

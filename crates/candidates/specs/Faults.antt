@@ -1,26 +1,21 @@
 -- "then 11 or 10 at the first binding that meets one". Assumes nothing.
-use Rattle.std.specs.Prelude.{ℕ, zero, suc, ◌+◌, ◌≤◌, ◌≡◌, List, length, take}
+use Rattle.std.specs.Prelude.{ℕ, zero, suc, ◌+◌, ◌≤◌, ◌≡◌, List, length, take, Result, Ok}
 use Rattle.base_text.specs.Bindings.{records_in}
-use Rattle.base_text.specs.Refusals.{front_of, fault_of}
-use Rattle.base_text.specs.declared.Tested.{Tested}
-
--- the first of two faults
-abbrev pub or_else : Tested → Tested → Tested
-or_else Tested.Passed other = other
-or_else (Tested.Refused refusal) other = Tested.Refused refusal
+use Rattle.base_text.specs.Refusals.{unless, front_of, fault_of}
+use Rattle.base_text.specs.declared.Refusal.{Refusal}
 
 -- the first fault of n bindings from number b on
-unfoldable pub fault_from : (bindings names text : List ℕ) (b n : ℕ) → Tested
-fault_from bindings names text b zero = Tested.Passed
-fault_from bindings names text b (suc n) = or_else (fault_of b bindings names text) (fault_from bindings names text (b + 1) n)
+unfoldable pub fault_from : (bindings names text : List ℕ) (b n : ℕ) → Result (Unit {0}) Refusal
+fault_from bindings names text b zero = Ok tt
+fault_from bindings names text b (suc n) = unless (fault_of b bindings names text) (fault_from bindings names text (b + 1) n)
 
-abbrev pub first_fault : (bindings names text : List ℕ) → Tested
+abbrev pub first_fault : (bindings names text : List ℕ) → Result (Unit {0}) Refusal
 first_fault bindings names text = fault_from bindings names text 1 (records_in bindings)
 
 -- a table and bindings that 1, 4, 11 and 10 leave
 pub record Sound (bindings names text : List ℕ) : Type 0 where
-  pub front : front_of bindings names text ≡ Tested.Passed
-  pub faults : first_fault bindings names text ≡ Tested.Passed
+  pub front : front_of bindings names text ≡ Ok tt
+  pub faults : first_fault bindings names text ≡ Ok tt
 
 -- Of the code: the base text s stands at the front of `out`, and has r bytes.
 pub record Stands (s : List ℕ) (r : ℕ) (out : List ℕ) : Type 0 where

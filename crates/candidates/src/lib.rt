@@ -7,16 +7,23 @@
 
 #![tactic(auto)]
 
-ghost use Rattle.std.specs.Prelude.{◌≡◌, ℕ, ◌+◌, ◌≤◌, ◌<◌, ◌^◌, length};
+ghost use Rattle.std.specs.Prelude.{◌≡◌, ℕ, ◌+◌, ◌≤◌, ◌<◌, ◌^◌, length, Ok};
 ghost use Rattle.base_text.specs.Refusals.{front_of, fault_of, base_text};
 ghost use Rattle.decimal.specs.Decimal.{Wrote};
 ghost use Rattle.candidates.specs.Candidates.{candidate};
-ghost use Rattle.candidates.specs.Faults.{first_fault, Stands};
+ghost use Rattle.candidates.specs.Faults.{first_fault, Sound, Stands};
 
-use base_text::{Spelling, Tested};
+use base_text::{Refusal, Script};
 use decimal::{put_byte, put_bytes, put_number};
 
 const UNDERSCORE: u8 = 0x5F;
+
+// A script that 1, 4, 11 and 10 leave.
+#[derive(Clone, Copy)]
+pub struct Checked<'a> {
+    pub script: Script<'a>,
+    pub ghost sound: { Sound script.bindings.now script.names.now script.text.now },
+}
 
 // Room for a base text, which has at most 270 bytes.
 fn base_room() -> [u8; 272]
@@ -26,35 +33,23 @@ fn base_room() -> [u8; 272]
 }
 
 // Writes the base text of binding b, from 1, to the front of `out`.
-fn spell(b: u32, bindings: &[u8], names: &[u8], text: &[u8], out: &mut [u8]) -> usize
-    requires text_value { (front_of bindings.now names.now text.now ≡ Tested.Passed) × (fault_of b bindings.now names.now text.now ≡ Tested.Passed) }
+fn spell(b: u32, script: Script, out: &mut [u8]) -> usize
+    requires text_value { (front_of script.bindings.now script.names.now script.text.now ≡ Ok tt) × (fault_of b script.bindings.now script.names.now script.text.now ≡ Ok tt) }
     requires value { 272 ≡ length out.old }
-    ensures { Stands (base_text b bindings.now names.now text.now) result out.new }
+    ensures { Stands (base_text b script.entry.bindings.now script.entry.names.now script.entry.text.now) result out.new }
 {
-    let spelled = base_text::text_of(b, bindings, names, text, out);
-    let Spelling::Written { bytes } = spelled else {
-        return 0;
-    };
-    bytes as usize
+    base_text::text_of(b, script, out).unwrap() as usize
 }
 
 // Writes the made name of binding b with the number n behind it, where that is not 1, from byte `at`
 // on as far as there is room, and answers where it stops.
-pub fn put_candidate(
-    out: &mut [u8],
-    at: usize,
-    b: u32,
-    n: u32,
-    bindings: &[u8],
-    names: &[u8],
-    text: &[u8],
-) -> usize
-    requires text_value { (front_of bindings.now names.now text.now ≡ Tested.Passed) × (fault_of b bindings.now names.now text.now ≡ Tested.Passed) }
+pub fn put_candidate(out: &mut [u8], at: usize, b: u32, n: u32, script: Script) -> usize
+    requires text_value { (front_of script.bindings.now script.names.now script.text.now ≡ Ok tt) × (fault_of b script.bindings.now script.names.now script.text.now ≡ Ok tt) }
     requires at_bound { at < 2 ^ 59 }
-    ensures { (Wrote out.old at (candidate (base_text b bindings.now names.now text.now) n) result out.new) × (result ≤ at + 281) }
+    ensures { (Wrote out.old at (candidate (base_text b script.entry.bindings.now script.entry.names.now script.entry.text.now) n) result out.new) × (result ≤ at + 281) }
 {
     let mut base = base_room();
-    let count = spell(b, bindings, names, text, &mut base);
+    let count = spell(b, script, &mut base);
     let first = put_byte(out, at, UNDERSCORE);
     let end = put_bytes(out, first, &base[..count]);
     if n < 2 {
@@ -64,19 +59,14 @@ pub fn put_candidate(
 }
 
 // The first binding that 11 or 10 turns away, of what passed `base_text::front`.
-pub fn first_fault(bindings: &[u8], names: &[u8], text: &[u8]) -> Tested
-    requires { front_of bindings.now names.now text.now ≡ Tested.Passed }
-    ensures { result ≡ first_fault bindings.now names.now text.now }
+pub fn first_fault(script: Script) -> Result<(), Refusal>
+    requires { front_of script.bindings.now script.names.now script.text.now ≡ Ok tt }
+    ensures { result ≡ first_fault script.entry.bindings.now script.entry.names.now script.entry.text.now }
 {
-    let count = base_text::records_in(bindings) as u32;
+    let count = base_text::records_in(script.bindings) as u32;
     let mut out = base_room();
-    let mut b: u32 = 1;
-    while b <= count {
-        let spelled = base_text::text_of(b, bindings, names, text, &mut out);
-        if let Spelling::Refused(refusal) = spelled {
-            return Tested::Refused(refusal);
-        }
-        b += 1;
+    for b in 1..=count {
+        base_text::text_of(b, script, &mut out)?;
     }
-    Tested::Passed
+    Ok(())
 }

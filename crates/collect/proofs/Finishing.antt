@@ -33,17 +33,19 @@ module _ (M : List ℕ) (cap count : ℕ) (c : Ctx) (op : Op) (closing : Bool) (
           go true h = absurd (true≢false (sym h))
           go false h = refl
 
-      module _ (e : not closing ≡ false) where
-        closes-it : binds M' cap l ++ params_of frame (binds M' cap l) ≡ closed closing frame left
+      -- the maker has its size still, under another name
+      module _ (e : not closing ≡ false) {cap' : ℕ} (same : cap' ≡ cap) where
+        closes-it : binds M' cap' l ++ params_of frame (binds M' cap' l) ≡ closed closing frame left
         unfolding closed
-        closes-it = ap (λ (bs : List Binding). bs ++ params_of frame bs) k.list ∙ go closing e
+        closes-it = ap (λ (n : ℕ). binds M' n l ++ params_of frame (binds M' n l)) same ∙ ap (λ (bs : List Binding). bs ++ params_of frame bs) k.list ∙ go closing e
           where
             go : (x : Bool) → not x ≡ false → left ++ params_of frame left ≡ cond x (left ++ params_of frame left) left
             go true h = refl
             go false h = absurd (true≢false h)
 
-        pub close-asks : Asked M' cap frame l (binds M' cap l ++ params_of frame (binds M' cap l))
-        close-asks = record { store = k.store; row_low = F.frame_low; cap_low = F.cap_low; room = subst (λ (bs : List Binding). length bs < cap) (sym closes-it) F.room }
+        pub close-asks : Asked M' cap' frame l (binds M' cap' l ++ params_of frame (binds M' cap' l))
+        close-asks = subst (λ (n : ℕ). Asked M' n frame l (binds M' cap' l ++ params_of frame (binds M' cap' l))) (sym same)
+            (record { store = k.store; row_low = F.frame_low; cap_low = F.cap_low; room = subst (λ (bs : List Binding). length bs < cap) (sym closes-it) F.room })
 
-        pub is-closed : (M'' : List ℕ) (r : ℕ) → Kept M'' cap (binds M' cap l ++ params_of frame (binds M' cap l)) r → Kept M'' cap (closed closing frame left) r
-        is-closed M'' r h = subst (λ (bs : List Binding). Kept M'' cap bs r) closes-it h
+        pub is-closed : (M'' : List ℕ) (r : ℕ) → Kept M'' cap' (binds M' cap' l ++ params_of frame (binds M' cap' l)) r → Kept M'' cap (closed closing frame left) r
+        is-closed M'' r h = subst (λ (n : ℕ). Kept M'' n (closed closing frame left) r) same (subst (λ (bs : List Binding). Kept M'' cap' bs r) closes-it h)

@@ -3,19 +3,19 @@ use mathlib.Core.Path.{◌≡◌, ap, sym, subst, ◌∙◌}
 use mathlib.Core.Bool.{Bool, true, false, cond, not, ◌&&◌}
 use mathlib.Core.List.{List}
 use Prim.Native.Nat.{ℕ, ◌<◌, ◌≤◌}
-use native.Mathlib.Omega.{arith}
 use lib.ListN.{length}
 use Rattle.steps.specs.Naming.{Names}
-use Rattle.steps.specs.Acts.{Ctx, Op}
+use Rattle.steps.specs.Acts.{Ctx, Op, Op.name, Op.call}
 use Rattle.steps.specs.Bindings.{Binding, meet, note}
 use Rattle.bindings.specs.Search.{is_accessor, note_capture}
 use Rattle.bindings.specs.Store.{binds}
 use Rattle.bindings.specs.Post.{Kept, Asked}
 use Rattle.bindings.specs.Filed.{Filed, behind}
 use Rattle.bindings.proofs.Filing.{filed_capture}
-use Rattle.bindings.proofs.Finding.{accessor-small}
 use Rattle.bindings.proofs.Numbered.{note-capture}
-use Rattle.passes.specs.View.{op_of}
+use Rattle.passes.specs.View.{capture_number, access_number, op_of}
+use Rattle.passes.specs.declared.Capture.{Capture}
+use Rattle.passes.specs.declared.Access.{Access}
 use Rattle.passes.specs.declared.Becomes.{Becomes}
 use Rattle.passes.specs.declared.Becomes.TheVariants as becomes
 use Rattle.plan.specs.Frames.{OpLow}
@@ -37,17 +37,14 @@ module _ (N : Names) (M : List ℕ) (cap count : ℕ) (op : Becomes) where
   unfolding meet op_of
   drop_meets q m = record { store = m.store; list = sym (ap (λ (o : Becomes). meet N (op_of o) (binds M cap count)) q) }
 
-  module _ (u f : ℕ) (q : op ≡ becomes.Name u f) (m : Meets M cap count op met) where
+  module _ (v : Capture) (u f : ℕ) (e : u ≡ capture_number v) (q : op ≡ becomes.Name v f) (m : Meets M cap count op met) where
     name-low : (0 < u) × ((u ≤ 2) × (f < cap))
     unfolding op_of
-    name-low = subst (λ (o : Becomes). OpLow cap (op_of o)) q m.low
+    name-low = subst (λ (x : ℕ). OpLow cap (name x f)) (sym e) (subst (λ (o : Becomes). OpLow cap (op_of o)) q m.low)
 
     name-is : note_capture u f (binds M cap count) ≡ met
     unfolding meet op_of
-    name-is = note-capture N u f name-low.1.0 (binds M cap count) m.store.bare ∙ sym (ap (λ (o : Becomes). meet N (op_of o) (binds M cap count)) q)
-
-    pub name-small : u < 4294967296
-    name-small = let l = name-low in omega arith
+    name-is = note-capture N u f name-low.1.0 (binds M cap count) m.store.bare ∙ ap (λ (x : ℕ). meet N (name x f) (binds M cap count)) e ∙ sym (ap (λ (o : Becomes). meet N (op_of o) (binds M cap count)) q)
 
     pub name-asks : ((0 < u) × (u ≤ 2)) × Asked M cap f count (note_capture u f (binds M cap count))
     name-asks = (
@@ -56,22 +53,19 @@ module _ (N : Names) (M : List ℕ) (cap count : ℕ) (op : Becomes) where
     )
 
     pub name-filed : (M' : List ℕ) → Filed N.pairs N.text (behind cap M) cap (binds M cap count) → behind cap M' ≡ behind cap M → Filed N.pairs N.text (behind cap M') cap met
-    name-filed M' F e = subst (λ (I : List ℕ). Filed N.pairs N.text I cap met) (sym e) (subst (λ (l : List Binding). Filed N.pairs N.text (behind cap M) cap l) name-is (filed_capture u f name-low.1.0 F))
+    name-filed M' F h = subst (λ (I : List ℕ). Filed N.pairs N.text I cap met) (sym h) (subst (λ (l : List Binding). Filed N.pairs N.text (behind cap M) cap l) name-is (filed_capture u f name-low.1.0 F))
 
     pub name_meets : (M' : List ℕ) (count' : ℕ) → Kept M' cap (note_capture u f (binds M cap count)) count' → Kept M' cap met count'
     name_meets M' count' k = subst (λ (l : List Binding). Kept M' cap l count') name-is k
 
-  module _ (u f x : ℕ) (t : Bool) (q : op ≡ becomes.Call u f x t) (m : Meets M cap count op met) where
+  module _ (v : Access) (u f x : ℕ) (t : Bool) (e : u ≡ access_number v) (q : op ≡ becomes.Call v f x t) (m : Meets M cap count op met) where
     call-low : (is_accessor u ≡ true) × ((f < cap) × (x < 4294967296))
     unfolding op_of
-    call-low = subst (λ (o : Becomes). OpLow cap (op_of o)) q m.low
+    call-low = subst (λ (y : ℕ). OpLow cap (call y f x t)) (sym e) (subst (λ (o : Becomes). OpLow cap (op_of o)) q m.low)
 
     call-is : note N u f x (binds M cap count) ≡ met
     unfolding meet op_of
-    call-is = sym (ap (λ (o : Becomes). meet N (op_of o) (binds M cap count)) q)
-
-    pub call-small : u < 4294967296
-    call-small = let k = accessor-small u call-low.0 in omega arith
+    call-is = ap (λ (y : ℕ). note N y f x (binds M cap count)) e ∙ sym (ap (λ (o : Becomes). meet N (op_of o) (binds M cap count)) q)
 
     pub property-small : x < 4294967296
     property-small = call-low.1.1

@@ -126,57 +126,68 @@ module _ (N : Names) (w : Switches) {rows : List ℕ} {cap : ℕ} {M : List ℕ}
     pub row-meets-it : Meets M cap count r.op met-code
     row-meets-it = record { store = P.store; cap_low = P.cap_low; room = subst (λ (l : List Binding). length l < cap) (sym met-same) met-room; low = act-is-low.op }
 
-    module _ {M₁ : List ℕ} {l₁ : ℕ} (k₁ : Kept M₁ cap met-code l₁) {x : ℕ} (y : x ≡ end_at ws i) where
+    -- the maker has its size still, under another name
+    module _ {M₁ : List ℕ} {l₁ : ℕ} (k₁ : Kept M₁ cap met-code l₁) {x : ℕ} (y : x ≡ end_at ws i) {cap₁ : ℕ} (e₁ : cap₁ ≡ cap) where
       abbrev inside-code : List Binding
-      inside-code = collect_c N w (place_of r.one) (place_of r.more) (i + 1) (rows_at ws (i + 1) x) (binds M₁ cap l₁)
+      inside-code = collect_c N w (place_of r.one) (place_of r.more) (i + 1) (rows_at ws (i + 1) x) (binds M₁ cap₁ l₁)
 
       inside-same : inside-code ≡ inside
       inside-same =
-          ap (λ (s : Spot). collect_c N w s (place_of r.more) (i + 1) (rows_at ws (i + 1) x) (binds M₁ cap l₁)) d.first
+          ap (λ (m : ℕ). collect_c N w (place_of r.one) (place_of r.more) (i + 1) (rows_at ws (i + 1) x) (binds M₁ m l₁)) e₁
+          ∙ ap (λ (s : Spot). collect_c N w s (place_of r.more) (i + 1) (rows_at ws (i + 1) x) (binds M₁ cap l₁)) d.first
           ∙ ap (λ (s : Spot). collect_c N w (into w q A.one) s (i + 1) (rows_at ws (i + 1) x) (binds M₁ cap l₁)) d.later
           ∙ ap (λ (m : ℕ). collect_c N w (into w q A.one) (into w q A.more) (i + 1) (rows_at ws (i + 1) m) (binds M₁ cap l₁)) y
           ∙ ap (collect_c N w (into w q A.one) (into w q A.more) (i + 1) (children ws i)) (k₁.list ∙ met-same)
 
-      pub children-collect : Collects (rows_in rows) M₁ cap l₁ (place_of r.one) (place_of r.more) inside-code
-      children-collect = record {
-        store = k₁.store;
-        cap_low = P.cap_low;
-        rows_low = P.rows_low;
-        one-low = act-is-low.one;
-        more-low = act-is-low.more;
-        room = subst (λ (l : List Binding). length l < cap) (sym inside-same) inside-room;
-      }
+      pub children-collect : Collects (rows_in rows) M₁ cap₁ l₁ (place_of r.one) (place_of r.more) inside-code
+      children-collect = subst (λ (m : ℕ). Collects (rows_in rows) M₁ m l₁ (place_of r.one) (place_of r.more) inside-code) (sym e₁)
+          (record {
+            store = k₁.store;
+            cap_low = P.cap_low;
+            rows_low = P.rows_low;
+            one-low = act-is-low.one;
+            more-low = act-is-low.more;
+            room = subst (λ (l : List Binding). length l < cap) (sym inside-same) inside-room;
+          })
 
-      module _ {M₂ : List ℕ} {l₂ : ℕ} (k₂ : Kept M₂ cap inside-code l₂) {k : ℕ} (z : k ≡ kind_at ws i) {b : Bool} {sl : ℕ} (v : b ≡ closes sl k) (vs : sl ≡ q.slot) {cx : Ctx} (xs : cx ≡ q.ctx) {f : ℕ} (fs : f ≡ (place_of r.more).ctx.this_at) where
+      module _ {M₂ : List ℕ} {l₂ : ℕ} (k₂ : Kept M₂ cap₁ inside-code l₂) {cap₂ : ℕ} (e₂ : cap₂ ≡ cap₁)
+          {k : ℕ} (z : k ≡ kind_at ws i) {b : Bool} {sl : ℕ} (v : b ≡ closes sl k) (vs : sl ≡ q.slot) {cx : Ctx} (xs : cx ≡ q.ctx) {f : ℕ} (fs : f ≡ (place_of r.more).ctx.this_at) where
         abbrev after-code : List Binding
-        after-code = closed b f (leave_capture cx (op_of r.op) (binds M₂ cap l₂))
+        after-code = closed b f (leave_capture cx (op_of r.op) (binds M₂ cap₂ l₂))
 
         after_same : after-code ≡ after
         after_same =
-            ap (λ (m : ℕ). closed b m (leave_capture cx (op_of r.op) (binds M₂ cap l₂))) fs
-            ∙ ap (λ (c : Ctx). closed b (place_of r.more).ctx.this_at (leave_capture c (op_of r.op) (binds M₂ cap l₂))) xs
-            ∙ ap (λ (u : Bool). closed u (place_of r.more).ctx.this_at (leave_capture q.ctx (op_of r.op) (binds M₂ cap l₂))) (v ∙ ap (λ (m : ℕ). closes m k) vs ∙ ap (closes q.slot) z)
-            ∙ ap (λ (s : Spot). closed (closes q.slot (kind_at ws i)) s.ctx.this_at (leave_capture q.ctx (op_of r.op) (binds M₂ cap l₂))) d.later
+            ap (λ (m : ℕ). closed b f (leave_capture cx (op_of r.op) (binds M₂ m l₂))) e₂
+            ∙ ap (λ (m : ℕ). closed b m (leave_capture cx (op_of r.op) (binds M₂ cap₁ l₂))) fs
+            ∙ ap (λ (c : Ctx). closed b (place_of r.more).ctx.this_at (leave_capture c (op_of r.op) (binds M₂ cap₁ l₂))) xs
+            ∙ ap (λ (u : Bool). closed u (place_of r.more).ctx.this_at (leave_capture q.ctx (op_of r.op) (binds M₂ cap₁ l₂))) (v ∙ ap (λ (m : ℕ). closes m k) vs ∙ ap (closes q.slot) z)
+            ∙ ap (λ (s : Spot). closed (closes q.slot (kind_at ws i)) s.ctx.this_at (leave_capture q.ctx (op_of r.op) (binds M₂ cap₁ l₂))) d.later
             ∙ ap (closed (closes q.slot (kind_at ws i)) (enter w A.more.step q.ctx).this_at)
-            (leave_same N q.ctx (op_of r.op) (binds M₂ cap l₂) k₂.store.bare
-            ∙ ap (λ (o : Op). leave N q.ctx o (binds M₂ cap l₂)) d.becomes
+            (leave_same N q.ctx (op_of r.op) (binds M₂ cap₁ l₂) k₂.store.bare
+            ∙ ap (λ (o : Op). leave N q.ctx o (binds M₂ cap₁ l₂)) d.becomes
             ∙ ap (leave N q.ctx A.op) (k₂.list ∙ inside-same))
 
-        pub row-finishes : Finishes M₂ cap l₂ cx.this_at f after-code
-        row-finishes = record {
-          store = k₂.store;
-          cap_low = P.cap_low;
-          this_low = subst (λ (c : Ctx). c.this_at < cap) (sym xs) P.low.this;
-          frame_low = subst (λ (m : ℕ). m < cap)
-              (sym fs) act-is-low.more.this;
-          room = subst (λ (l : List Binding). length l < cap) (sym after_same) P.room;
-        }
+        same-cap : cap₂ ≡ cap
+        same-cap = e₂ ∙ e₁
 
-        pub row-filed : (M₃ : List ℕ) → Filed N.pairs N.text (behind cap M₂) cap inside-code → behind cap M₃ ≡ behind cap M₂ → Filed N.pairs N.text (behind cap M₃) cap after
-        row-filed M₃ F e = subst (λ (I : List ℕ). Filed N.pairs N.text I cap after) (sym e) (filed_as (filed_closed b f (filed_left cx (op_of r.op) (filed_as F (sym k₂.list)))) after_same)
+        pub row-finishes : Finishes M₂ cap₂ l₂ cx.this_at f after-code
+        row-finishes = subst (λ (m : ℕ). Finishes M₂ m l₂ cx.this_at f after-code) (sym same-cap)
+            (record {
+              store = subst (λ (m : ℕ). Store M₂ m l₂) e₁ k₂.store;
+              cap_low = P.cap_low;
+              this_low = subst (λ (c : Ctx). c.this_at < cap) (sym xs) P.low.this;
+              frame_low = subst (λ (m : ℕ). m < cap) (sym fs) act-is-low.more.this;
+              room = subst (λ (l : List Binding). length l < cap) (sym after_same) P.room;
+            })
 
-        pub row_kept : {M₃ : List ℕ} {l₃ : ℕ} → Kept M₃ cap after-code l₃ → Kept M₃ cap after l₃
-        row_kept k = record { store = k.store; list = k.list ∙ after_same }
+        pub row-filed : (M₃ : List ℕ) → Filed N.pairs N.text (behind cap₁ M₂) cap₁ inside-code → behind cap₂ M₃ ≡ behind cap₂ M₂ → Filed N.pairs N.text (behind cap M₃) cap after
+        row-filed M₃ F e =
+            let there = filed_as (filed_closed b f (filed_left cx (op_of r.op) (filed_as F (sym k₂.list ∙ ap (λ (m : ℕ). binds M₂ m l₂) (sym e₂))))) after_same in
+            let here = subst (λ (m : ℕ). Filed N.pairs N.text (behind m M₂) m after) (sym e₂) there in
+            subst (λ (m : ℕ). Filed N.pairs N.text (behind m M₃) m after) same-cap (subst (λ (I : List ℕ). Filed N.pairs N.text I cap₂ after) (sym e) here)
+
+        pub row_kept : {M₃ : List ℕ} {l₃ : ℕ} → Kept M₃ cap₂ after-code l₃ → Kept M₃ cap after l₃
+        row_kept {M₃} {l₃} k = subst (λ (m : ℕ). Kept M₃ m after l₃) same-cap (record { store = k.store; list = k.list ∙ after_same })
 
 -- what is left from row i on, made of the bindings now in the array, is what the whole makes
 pub record Walking (N : Names) (w : Switches) (ws : List ℕ) (n : ℕ) (more : Spot) (whole : List Binding) (from e cap : ℕ) (M : List ℕ) (i : ℕ) (q : Spot) (count : ℕ) : Type 0 where
@@ -186,6 +197,14 @@ pub record Walking (N : Names) (w : Switches) (ws : List ℕ) (n : ℕ) (more : 
   pub store : Store M cap count
   pub filed : Filed N.pairs N.text (behind cap M) cap (binds M cap count)
   pub low : FramesBelow cap q.ctx
+
+-- both, where the array's size has another name
+pub collects_at : {n : ℕ} {M : List ℕ} {cap cap' count : ℕ} {q q' : Spot} {bs : List Binding} → cap ≡ cap' → Collects n M cap count q q' bs → Collects n M cap' count q q' bs
+collects_at {n} {M} {cap} {cap'} {count} {q} {q'} {bs} e = subst (λ (m : ℕ). Collects n M m count q q' bs) e
+
+pub walking_at : {N : Names} {w : Switches} {ws : List ℕ} {n : ℕ} {more : Spot} {whole : List Binding} {from e cap cap' : ℕ} {M : List ℕ} {i : ℕ} {q : Spot} {count : ℕ}
+    → cap ≡ cap' → Walking N w ws n more whole from e cap M i q count → Walking N w ws n more whole from e cap' M i q count
+walking_at {N} {w} {ws} {n} {more} {whole} {from} {e} {cap} {cap'} {M} {i} {q} {count} h = subst (λ (m : ℕ). Walking N w ws n more whole from e m M i q count) h
 
 -- nothing is left
 pub walked : {N : Names} {w : Switches} {ws : List ℕ} {n : ℕ} {more : Spot} {whole : List Binding} {from e cap : ℕ} {M : List ℕ} {i : ℕ} {q : Spot} {count : ℕ}

@@ -22,7 +22,8 @@ ghost use Rattle.collect.specs.Collecting.{Meets, Finishes, RowCollects, Collect
 use acts::context::Context;
 use acts::switches::Switches;
 use below::{attr_at, end_at, kind_at};
-use bindings::frame::Frame;
+use bindings::Use;
+use bindings::maker::Maker;
 use passes::{Becomes, closes};
 use plan::act_at;
 use plan::late::is_late;
@@ -30,35 +31,29 @@ use plan::place::{Place, program};
 use plan::stays::stays;
 
 // What a row meets before its children.
-fn meet(op: Becomes, made: &mut [u32], cap: usize, count: usize, names: &[u8], text: &[u8]) -> usize
-    requires meets { Meets made.old cap count op (steps.meet (names_of names.now text.now) (op_of op) (binds made.old cap count)) }
+fn meet(op: Becomes, maker: &mut Maker<'_>, names: &[u8], text: &[u8])
+    requires meets { Meets maker.old.made.now maker.old.cap maker.old.count op (steps.meet (names_of names.now text.now) (op_of op) (binds maker.old.made.now maker.old.cap maker.old.count)) }
     requires given_names { GivenNames names.now text.now }
-    requires filed { Filed names.now text.now (behind cap made.old) cap (binds made.old cap count) }
-    ensures kept { Kept made.new cap (steps.meet (names_of names.now text.now) (op_of op) (binds made.old cap count)) result }
-    ensures filed_2 { Filed names.now text.now (behind cap made.new) cap (steps.meet (names_of names.now text.now) (op_of op) (binds made.old cap count)) }
+    requires filed { Filed names.now text.now (behind maker.old.cap maker.old.made.now) maker.old.cap (binds maker.old.made.now maker.old.cap maker.old.count) }
+    ensures same_reference { maker.new.made.ghost_name ≡ maker.old.made.ghost_name }
+    ensures cap_value { maker.new.cap ≡ maker.old.cap }
+    ensures kept { Kept maker.new.made.now maker.old.cap (steps.meet (names_of names.now text.now) (op_of op) (binds maker.old.made.now maker.old.cap maker.old.count)) maker.new.count }
+    ensures filed_2 { Filed names.now text.now (behind maker.old.cap maker.new.made.now) maker.old.cap (steps.meet (names_of names.now text.now) (op_of op) (binds maker.old.made.now maker.old.cap maker.old.count)) }
 {
     match op {
         Becomes::Row {
             kind: _,
             attr: _,
             name: _,
-        } => count,
-        Becomes::Drop => count,
-        Becomes::Name { usage, frame } => {
-            let opened = Frame { row: frame, count };
-            let kept = opened.capture(made, cap, usage as u32);
-            kept.count
-        }
+        } => {}
+        Becomes::Drop => {}
+        Becomes::Name { usage, frame } => maker.capture(frame, usage as u32),
         Becomes::Call {
             usage,
             frame,
             property,
             called: _,
-        } => {
-            let opened = Frame { row: frame, count };
-            let kept = opened.note_super(made, cap, names, text, usage as u32, property as u32);
-            kept.count
-        }
+        } => maker.note_super(names, text, frame, usage as u32, property as u32),
     }
 }
 
@@ -85,50 +80,34 @@ fn is_called(op: Becomes) -> bool
 }
 
 // What it meets after them: the new This of `super.m(a)`, "met after k, going through module 3".
-fn leave(op: Becomes, context: Context, made: &mut [u32], cap: usize, count: usize) -> usize
-    requires { Asked made.old cap context.this_at count (leave_capture (context_of context) (op_of op) (binds made.old cap count)) }
-    ensures kept { Kept made.new cap (leave_capture (context_of context) (op_of op) (binds made.old cap count)) result }
-    ensures made_unchanged { behind cap made.new ≡ behind cap made.old }
+fn leave(op: Becomes, context: Context, maker: &mut Maker<'_>)
+    requires { Asked maker.old.made.now maker.old.cap context.this_at maker.old.count (leave_capture (context_of context) (op_of op) (binds maker.old.made.now maker.old.cap maker.old.count)) }
+    ensures same_reference { maker.new.made.ghost_name ≡ maker.old.made.ghost_name }
+    ensures cap_value { maker.new.cap ≡ maker.old.cap }
+    ensures kept { Kept maker.new.made.now maker.old.cap (leave_capture (context_of context) (op_of op) (binds maker.old.made.now maker.old.cap maker.old.count)) maker.new.count }
+    ensures made_unchanged { behind maker.old.cap maker.new.made.now ≡ behind maker.old.cap maker.old.made.now }
 {
-    if !(is_called(op) & context.takes_this) {
-        return count;
+    if is_called(op) & context.takes_this {
+        maker.capture(context.this_at, Use::This as u32);
     }
-    let opened = Frame {
-        row: context.this_at,
-        count,
-    };
-    let kept = opened.capture(made, cap, 1);
-    kept.count
 }
 
 // What is left to do after a row's children: what it meets then, and its frame closes where it is
 // the end of one.
-fn finish(
-    op: Becomes,
-    context: Context,
-    closing: bool,
-    frame: usize,
-    made: &mut [u32],
-    cap: usize,
-    count: usize,
-) -> usize
-    requires { Finishes made.old cap count context.this_at frame (steps.closed closing frame (leave_capture (context_of context) (op_of op) (binds made.old cap count))) }
-    ensures kept { Kept made.new cap (steps.closed closing frame (leave_capture (context_of context) (op_of op) (binds made.old cap count))) result }
-    ensures made_unchanged { behind cap made.new ≡ behind cap made.old }
+fn finish(op: Becomes, context: Context, closing: bool, frame: usize, maker: &mut Maker<'_>)
+    requires { Finishes maker.old.made.now maker.old.cap maker.old.count context.this_at frame (steps.closed closing frame (leave_capture (context_of context) (op_of op) (binds maker.old.made.now maker.old.cap maker.old.count))) }
+    ensures same_reference { maker.new.made.ghost_name ≡ maker.old.made.ghost_name }
+    ensures cap_value { maker.new.cap ≡ maker.old.cap }
+    ensures kept { Kept maker.new.made.now maker.old.cap (steps.closed closing frame (leave_capture (context_of context) (op_of op) (binds maker.old.made.now maker.old.cap maker.old.count))) maker.new.count }
+    ensures made_unchanged { behind maker.old.cap maker.new.made.now ≡ behind maker.old.cap maker.old.made.now }
 {
-    let left = leave(op, context, made, cap, count);
-    if !closing {
-        return left;
+    leave(op, context, maker);
+    if closing {
+        maker.close(frame);
     }
-    let opened = Frame {
-        row: frame,
-        count: left,
-    };
-    let kept = opened.close(made, cap);
-    kept.count
 }
 
-// The bindings that row i, which ends at `stop`, and its children add to those in the array.
+// The bindings that row i, which ends at `stop`, and its children add to those of the maker.
 #[cycle(collect_rows)]
 fn collect_row(
     rows: &[u8],
@@ -138,42 +117,40 @@ fn collect_row(
     q: Place,
     i: usize,
     stop: usize,
-    made: &mut [u32],
-    cap: usize,
-    count: usize,
-) -> usize
-    requires row_collects { RowCollects rows.now made.old cap count (place_of q) i stop (row_c (names_of names.now text.now) (switches_of switches) (place_of q) (words rows.now) i (binds made.old cap count)) }
+    maker: &mut Maker<'_>,
+)
+    requires row_collects { RowCollects rows.now maker.old.made.now maker.old.cap maker.old.count (place_of q) i stop (row_c (names_of names.now text.now) (switches_of switches) (place_of q) (words rows.now) i (binds maker.old.made.now maker.old.cap maker.old.count)) }
     requires given_names { GivenNames names.now text.now }
-    requires filed { Filed names.now text.now (behind cap made.old) cap (binds made.old cap count) }
-    ensures kept { Kept made.new cap (row_c (names_of names.now text.now) (switches_of switches) (place_of q) (words rows.now) i (binds made.old cap count)) result }
-    ensures filed_2 { Filed names.now text.now (behind cap made.new) cap (row_c (names_of names.now text.now) (switches_of switches) (place_of q) (words rows.now) i (binds made.old cap count)) }
+    requires filed { Filed names.now text.now (behind maker.old.cap maker.old.made.now) maker.old.cap (binds maker.old.made.now maker.old.cap maker.old.count) }
+    ensures same_reference { maker.new.made.ghost_name ≡ maker.old.made.ghost_name }
+    ensures cap_value { maker.new.cap ≡ maker.old.cap }
+    ensures kept { Kept maker.new.made.now maker.old.cap (row_c (names_of names.now text.now) (switches_of switches) (place_of q) (words rows.now) i (binds maker.old.made.now maker.old.cap maker.old.count)) maker.new.count }
+    ensures filed_2 { Filed names.now text.now (behind maker.old.cap maker.new.made.now) maker.old.cap (row_c (names_of names.now text.now) (switches_of switches) (place_of q) (words rows.now) i (binds maker.old.made.now maker.old.cap maker.old.count)) }
 {
     let from = i + 1;
     let kind = kind_at(rows, i);
     if stays(switches, q, kind, attr_at(rows, i)) {
         if stop <= from {
-            return count;
+            return;
         }
         let along = q.inside();
-        return collect(
-            rows, names, text, switches, along, along, from, stop, made, cap, count,
-        );
+        return collect(rows, names, text, switches, along, along, from, stop, maker);
     }
     let late = is_late(rows, names, text, switches, q, i);
     let act = act_at(rows, names, text, switches, q, i, late);
     let op = act.op;
-    let met = meet(op, made, cap, count, names, text);
+    meet(op, maker, names, text);
     let more = act.more;
-    let inner = collect(
-        rows, names, text, switches, act.one, more, from, stop, made, cap, met,
+    collect(
+        rows, names, text, switches, act.one, more, from, stop, maker,
     );
     let closing = closes(q.slot(), kind);
     let spot = q.spot();
     let frame = more.this_at();
-    finish(op, spot.context, closing, frame, made, cap, inner)
+    finish(op, spot.context, closing, frame, maker);
 }
 
-// The bindings that the rows from `from` to `end` add to those in the array. The first row is at
+// The bindings that the rows from `from` to `end` add to those of the maker. The first row is at
 // `one`, the later ones are at `more`.
 #[cycle(collect_rows)]
 pub fn collect(
@@ -185,30 +162,28 @@ pub fn collect(
     more: Place,
     from: usize,
     end: usize,
-    made: &mut [u32],
-    cap: usize,
-    count: usize,
-) -> usize
+    maker: &mut Maker<'_>,
+)
     requires ranged { Ranged rows.now from end }
     requires given_names { GivenNames names.now text.now }
-    requires collects { Collects (rows_in rows.now) made.old cap count (place_of one) (place_of more) (collect_c (names_of names.now text.now) (switches_of switches) (place_of one) (place_of more) from (rows_at (words rows.now) from end) (binds made.old cap count)) }
-    requires filed { Filed names.now text.now (behind cap made.old) cap (binds made.old cap count) }
-    ensures kept { Kept made.new cap (collect_c (names_of names.now text.now) (switches_of switches) (place_of one) (place_of more) from (rows_at (words rows.now) from end) (binds made.old cap count)) result }
-    ensures filed_2 { Filed names.now text.now (behind cap made.new) cap (collect_c (names_of names.now text.now) (switches_of switches) (place_of one) (place_of more) from (rows_at (words rows.now) from end) (binds made.old cap count)) }
+    requires collects { Collects (rows_in rows.now) maker.old.made.now maker.old.cap maker.old.count (place_of one) (place_of more) (collect_c (names_of names.now text.now) (switches_of switches) (place_of one) (place_of more) from (rows_at (words rows.now) from end) (binds maker.old.made.now maker.old.cap maker.old.count)) }
+    requires filed { Filed names.now text.now (behind maker.old.cap maker.old.made.now) maker.old.cap (binds maker.old.made.now maker.old.cap maker.old.count) }
+    ensures same_reference { maker.new.made.ghost_name ≡ maker.old.made.ghost_name }
+    ensures cap_value { maker.new.cap ≡ maker.old.cap }
+    ensures kept { Kept maker.new.made.now maker.old.cap (collect_c (names_of names.now text.now) (switches_of switches) (place_of one) (place_of more) from (rows_at (words rows.now) from end) (binds maker.old.made.now maker.old.cap maker.old.count)) maker.new.count }
+    ensures filed_2 { Filed names.now text.now (behind maker.old.cap maker.new.made.now) maker.old.cap (collect_c (names_of names.now text.now) (switches_of switches) (place_of one) (place_of more) from (rows_at (words rows.now) from end) (binds maker.old.made.now maker.old.cap maker.old.count)) }
 {
     let mut i = from;
     let mut q = one;
-    let mut kept = count;
     while i < end {
         let stop = end_at(rows, i);
-        kept = collect_row(rows, names, text, switches, q, i, stop, made, cap, kept);
+        collect_row(rows, names, text, switches, q, i, stop, maker);
         q = more;
         i = stop;
     }
-    kept
 }
 
-// The bindings of a whole table.
+// The bindings of a whole table, made in the lent array. The answer is their number.
 pub fn make_bindings(
     rows: &[u8],
     names: &[u8],
@@ -226,7 +201,13 @@ pub fn make_bindings(
 {
     let start = program();
     let end = rows.len() / 16;
+    let mut maker = Maker {
+        made,
+        cap,
+        count: 0,
+    };
     collect(
-        rows, names, text, switches, start, start, 0, end, made, cap, 0,
-    )
+        rows, names, text, switches, start, start, 0, end, &mut maker,
+    );
+    maker.count
 }

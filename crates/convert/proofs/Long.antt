@@ -7,7 +7,7 @@ use Prim.Native.Nat.{ℕ, ◌+◌, ◌*◌, ◌%◌, ◌≤◌, ◌<◌}
 use native.Mathlib.Omega.{arith}
 use lib.ListN.{length}
 use lib.Dec.{eqb, leb, ltb}
-use borrow.Author.Tests.{eq-eqb, ne_eqb, lt-leb, leb-true, leb-false}
+use borrow.Author.Tests.{ne_eqb, lt-leb, leb-true, leb-false}
 use Rattle.names.specs.Laid.{joined, pairs_from}
 use Rattle.names.specs.Bytes.{bytes_of}
 use Rattle.names.proofs.Laying.{pairs_long}
@@ -20,26 +20,22 @@ use Rattle.printer.specs.Print.{printed}
 use Rattle.fields.specs.Fields.{lines, fields, row_of, same_bytes, switches_ok}
 use Rattle.fields.specs.Headers.{switch_header, name_header}
 use Rattle.fields.specs.declared.Row.{Row}
-use Rattle.fields.specs.declared.Row.TheVariants.{Words, Fault}
-use Rattle.parser.specs.Parse.{Read, Read.sheet, Read.faulty, is_row, rows_from, words_from, has_rows, names_in, after_names, with_rows, switches_in, from_fourth, from_third, from_second, from_first}
-use Rattle.parser.specs.declared.Lines.{Lines}
-use Rattle.parser.specs.declared.Lines.TheVariants.{Count, Wrong}
+use Rattle.std.proofs.Common.{Option, None, Some, Ok, Err}
+use Rattle.parser.specs.Parse.{Read, Read.sheet, Read.faulty, Lines, wrong, is_row, rows_from, words_from, has_rows, names_in, after_names, with_rows, switches_in, from_fourth, from_third, from_second, from_first}
+use Rattle.parser.specs.declared.FaultyLine.{FaultyLine}
 use Rattle.form.specs.declared.Form.{Form}
-use Rattle.form.specs.Form.{told, close, scan, start, fault_in, Fits}
+use Rattle.form.specs.Form.{told, close, scan, start, fault_in}
 use Rattle.form.proofs.Verdict.{told_text}
 use Rattle.form.proofs.Long.{sheet-long}
 use Rattle.convert.specs.Output.{answer, answer_to, outcome_for, output_for, answer_long, Shows}
 
 -- the loop over the pieces
-pub record Going (input₀ out₀ input out front : List ℕ) (f : Form) (pieces : ℕ) : Type 0 where
+pub record Going (input₀ out₀ input out : List ℕ) (f : Form) (pieces : ℕ) : Type 0 where
   pub whole : length input ≡ 131073
   pub as_long : length input ≡ length input₀
   pub room : 131072 ≤ length out
   pub as_wide : length out ≡ length out₀
-  pub kept : length front ≡ 44
-  pub fits : Fits f front
   pub near : f.line ≤ 1 + 131073 * pieces
-  pub low : pieces ≤ 32767
 
 -- Lines are numbered from 1.
 no_fault : {A : Type 0} {l : ℕ} {w : Switches} {names : List (List ℕ)} {ws : List ℕ} → sheet w names ws ≡ faulty l → A
@@ -48,15 +44,18 @@ no_fault h = absurd (let z : ◌≡◌ {A = ℕ} 0 1 = cc in omega arith)
 line_of : {k l : ℕ} → faulty k ≡ faulty l → k ≡ l
 line_of h = cc
 
-rows_some : (ls : List (List ℕ)) (n k l : ℕ) → rows_from n k ls ≡ Wrong l → k ≤ l
+wrong_line : {k : ℕ} {e : FaultyLine} → wrong {A = ℕ} k ≡ Err e → k ≡ e.line
+wrong_line {k} {e} h = let z : ◌≡◌ {A = FaultyLine} (record { line = k }) e = cc in ap (λ (x : FaultyLine). x.line) z
+
+rows_some : (ls : List (List ℕ)) (n k : ℕ) (l : FaultyLine) → rows_from n k ls ≡ Err l → k ≤ l.line
 unfolding rows_from
 rows_some [] n k l h = absurd (let z : ◌≡◌ {A = ℕ} 0 1 = cc in omega arith)
 rows_some (x ∷ ls) n k l h = go (row_of (fields x)) (leb 1024 n) (rows_some ls (n + 1) k l) h
   where
-    go : (r : Row) (b : Bool) → (rows_from (n + 1) k ls ≡ Wrong l → k ≤ l) → is_row r (cond b (Wrong (k + n)) (rows_from (n + 1) k ls)) (Wrong (k + n)) ≡ Wrong l → k ≤ l
-    go Fault b ih h = let e : k + n ≡ l = cc in omega arith
-    go (Words a x c d) true ih h = let e : k + n ≡ l = cc in omega arith
-    go (Words a x c d) false ih h = ih h
+    go : (r : Option Row) (b : Bool) → (rows_from (n + 1) k ls ≡ Err l → k ≤ l.line) → is_row {A = Lines} r (cond b (wrong (k + n)) (rows_from (n + 1) k ls)) (wrong (k + n)) ≡ Err l → k ≤ l.line
+    go None b ih h = let e : k + n ≡ l.line = wrong_line h in omega arith
+    go (Some x) true ih h = let e : k + n ≡ l.line = wrong_line h in omega arith
+    go (Some x) false ih h = ih h
 
 fourth_some : (w : Switches) (ls : List (List ℕ)) (l : ℕ) → from_fourth w ls ≡ faulty l → 0 < l
 unfolding from_fourth
@@ -65,8 +64,8 @@ fourth_some w ls l h = go (has_rows ls) (rows_from 0 (5 + length (names_in ls)) 
     go : (b : Bool) (r : Lines) → rows_from 0 (5 + length (names_in ls)) (after_names ls) ≡ r
         → cond b (with_rows w (names_in ls) (words_from 0 (after_names ls)) r) (faulty (4 + length ls)) ≡ faulty l → 0 < l
     go false r q h = let e = line_of h in omega arith
-    go true (Count n) q h = no_fault h
-    go true (Wrong m) q h = let e = line_of h in omega (arith, rows_some (after_names ls) 0 (5 + length (names_in ls)) m q)
+    go true (Ok n) q h = no_fault h
+    go true (Err m) q h = let e = line_of h in omega (arith, rows_some (after_names ls) 0 (5 + length (names_in ls)) m q)
 
 first_some : (ls : List (List ℕ)) (l : ℕ) → from_first ls ≡ faulty l → 0 < l
 unfolding from_first from_second from_third
@@ -135,9 +134,8 @@ long_output s h = ap answer_long (told_text s) ∙ go (from_first (lines s)) ref
     go (faulty l) q = rw (ne_eqb l 0 (λ e. let z = first_some (lines s) l q in omega arith))
     go (sheet w names ws) q = ap answer (sym (refused_one w names ws (let z = sheet-long w names ws s q in omega arith)))
 
-module _ {line x r : ℕ} {out : List ℕ} (e : line ≡ x) where
-  pub told_form : line ≡ 0 → Shows (printed 1 0 [] []) r out → Shows (answer_long x) r out
-  told_form q s = rw (eq-eqb x 0 (sym e ∙ q)) s
+pub told_form : (x : ℕ) {r : ℕ} {out : List ℕ} → x ≡ 0 → Shows (printed 1 0 [] []) r out → Shows (answer_long x) r out
+told_form x q s = rw q s
 
-  pub told-fault : (line ≡ 0 → ⊥) → Shows (printed 12 line [] []) r out → Shows (answer_long x) r out
-  told-fault q s = rw (ne_eqb x 0 (λ z. q (e ∙ z))) (subst (λ (l : ℕ). Shows (printed 12 l [] []) r out) e s)
+pub told-fault : (line x : ℕ) {r : ℕ} {out : List ℕ} → line ≡ x → 0 < line → Shows (printed 12 line [] []) r out → Shows (answer_long x) r out
+told-fault line x {r} {out} e q s = rw (ne_eqb x 0 (λ z. omega arith)) (subst (λ (l : ℕ). Shows (printed 12 l [] []) r out) e s)

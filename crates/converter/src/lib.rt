@@ -10,7 +10,7 @@ ghost use Rattle.answer.specs.Answer as answers;
 ghost use Rattle.answer.specs.Converting.{Converts};
 
 use acts::switches::Switches;
-use answer::Converted;
+use answer::{Converted, Refusal};
 use refusals::refusal;
 use result::result;
 use rows::{check, limits_for};
@@ -27,23 +27,17 @@ pub fn convert(
     text: &[u8],
     out_rows: &mut [u8],
     out_bindings: &mut [u8],
-) -> Converted
+) -> Result<Converted, Refusal>
     ensures { Converts tablet (switches_of switches) rows.now names.now text.now (answers.number_of result) (answers.place_of result) (answers.rows_of result) (answers.bindings_of result)
         out_rows.old out_rows.new out_bindings.old out_bindings.new }
 {
     let limits = limits_for(tablet);
-    let checked = check(rows, names, text, limits);
-    if checked.number() != 0 {
-        return Converted::Unsound { checked };
-    }
+    check(rows, names, text, limits)?;
     let converter = ArrowFunctionConverter::new(
         switches.arrow_function,
         switches.async_to_generator,
         switches.async_generator_functions,
     );
-    let refused = refusal(rows, names, text, converter);
-    if refused.number() != 0 {
-        return Converted::TurnedAway { refused };
-    }
+    refusal(rows, names, text, converter)?;
     result(switches, rows, names, text, out_rows, out_bindings)
 }

@@ -1,5 +1,5 @@
 // The result of an accepted table, over an array that is as large as the table needs.
-ghost use Rattle.std.specs.Prelude.{◌≡◌, true, ◌||◌, ℕ, ◌≤◌, ◌<◌};
+ghost use Rattle.std.specs.Prelude.{◌≡◌, true, ◌||◌, ℕ, ◌*◌, ◌≤◌, ◌<◌};
 ghost use Rattle.names.specs.Words.{rows_in};
 ghost use Rattle.steps.specs.Mode.{enabled, async_only};
 ghost use Rattle.steps.specs.Accepted.{Accepted};
@@ -7,139 +7,33 @@ ghost use Rattle.acts.specs.View.{switches_of};
 ghost use Rattle.walks.specs.Ready.{Gives};
 
 use acts::switches::Switches;
-use answer::Converted;
+use answer::{Converted, Refusal};
 use walks::{unchanged, write_result};
 
-// A table of at most 64 rows,
-fn up_to_64(
+// A table of at most N rows, over an array of its own, in a frame of its own: twelve words for each row.
+#[inline(never)]
+fn up_to<const N: usize, const M: usize>(
     switches: Switches,
     rows: &[u8],
     names: &[u8],
     text: &[u8],
     out_rows: &mut [u8],
     out_bindings: &mut [u8],
-) -> Converted
+) -> Result<Converted, Refusal>
+    requires sizes { (M ≡ 12 * N) × ((0 < N) × (N ≤ 16384)) }
     requires accepted { Accepted 16384 128 (switches_of switches) rows.now names.now text.now }
-    requires switches_value { ((enabled (switches_of switches) || async_only (switches_of switches)) ≡ true) × (rows_in rows.now ≤ 64) }
+    requires switches_value { ((enabled (switches_of switches) || async_only (switches_of switches)) ≡ true) × (rows_in rows.now ≤ N) }
     ensures { Gives (switches_of switches) rows.now names.now text.now result
         out_rows.old out_rows.new out_bindings.old out_bindings.new }
 {
-    let mut made = [0u32; 768];
+    let mut made = [0u32; M];
     write_result(
         switches,
         rows,
         names,
         text,
         &mut made,
-        64,
-        out_rows,
-        out_bindings,
-    )
-}
-
-// of at most 256,
-fn up_to_256(
-    switches: Switches,
-    rows: &[u8],
-    names: &[u8],
-    text: &[u8],
-    out_rows: &mut [u8],
-    out_bindings: &mut [u8],
-) -> Converted
-    requires accepted { Accepted 16384 128 (switches_of switches) rows.now names.now text.now }
-    requires switches_value { ((enabled (switches_of switches) || async_only (switches_of switches)) ≡ true) × (rows_in rows.now ≤ 256) }
-    ensures { Gives (switches_of switches) rows.now names.now text.now result
-        out_rows.old out_rows.new out_bindings.old out_bindings.new }
-{
-    let mut made = [0u32; 3072];
-    write_result(
-        switches,
-        rows,
-        names,
-        text,
-        &mut made,
-        256,
-        out_rows,
-        out_bindings,
-    )
-}
-
-// of at most 1,024,
-fn up_to_1024(
-    switches: Switches,
-    rows: &[u8],
-    names: &[u8],
-    text: &[u8],
-    out_rows: &mut [u8],
-    out_bindings: &mut [u8],
-) -> Converted
-    requires accepted { Accepted 16384 128 (switches_of switches) rows.now names.now text.now }
-    requires switches_value { ((enabled (switches_of switches) || async_only (switches_of switches)) ≡ true) × (rows_in rows.now ≤ 1024) }
-    ensures { Gives (switches_of switches) rows.now names.now text.now result
-        out_rows.old out_rows.new out_bindings.old out_bindings.new }
-{
-    let mut made = [0u32; 12288];
-    write_result(
-        switches,
-        rows,
-        names,
-        text,
-        &mut made,
-        1024,
-        out_rows,
-        out_bindings,
-    )
-}
-
-// of at most 4,096,
-fn up_to_4096(
-    switches: Switches,
-    rows: &[u8],
-    names: &[u8],
-    text: &[u8],
-    out_rows: &mut [u8],
-    out_bindings: &mut [u8],
-) -> Converted
-    requires accepted { Accepted 16384 128 (switches_of switches) rows.now names.now text.now }
-    requires switches_value { ((enabled (switches_of switches) || async_only (switches_of switches)) ≡ true) × (rows_in rows.now ≤ 4096) }
-    ensures { Gives (switches_of switches) rows.now names.now text.now result
-        out_rows.old out_rows.new out_bindings.old out_bindings.new }
-{
-    let mut made = [0u32; 49152];
-    write_result(
-        switches,
-        rows,
-        names,
-        text,
-        &mut made,
-        4096,
-        out_rows,
-        out_bindings,
-    )
-}
-
-// and of at most 16,384.
-fn up_to_16384(
-    switches: Switches,
-    rows: &[u8],
-    names: &[u8],
-    text: &[u8],
-    out_rows: &mut [u8],
-    out_bindings: &mut [u8],
-) -> Converted
-    requires accepted { Accepted 16384 128 (switches_of switches) rows.now names.now text.now }
-    requires switches_value { ((enabled (switches_of switches) || async_only (switches_of switches)) ≡ true) × (rows_in rows.now ≤ 16384) }
-    ensures { Gives (switches_of switches) rows.now names.now text.now result
-        out_rows.old out_rows.new out_bindings.old out_bindings.new }
-{
-    let mut made = [0u32; 196608];
-    write_result(
-        switches,
-        rows,
-        names,
-        text,
-        &mut made,
-        16384,
+        N,
         out_rows,
         out_bindings,
     )
@@ -155,7 +49,7 @@ fn over(
     text: &[u8],
     out_rows: &mut [u8],
     out_bindings: &mut [u8],
-) -> Converted
+) -> Result<Converted, Refusal>
     requires accepted { Accepted 16384 128 (switches_of switches) rows.now names.now text.now }
     requires switches_value { ((enabled (switches_of switches) || async_only (switches_of switches)) ≡ true) × ((rows_in rows.now ≤ 16384) × (0 < size)) }
     ensures { Gives (switches_of switches) rows.now names.now text.now result
@@ -165,19 +59,13 @@ fn over(
         let more = 4 * size;
         return over(more, switches, rows, names, text, out_rows, out_bindings);
     }
-    if size <= 64 {
-        return up_to_64(switches, rows, names, text, out_rows, out_bindings);
+    match size {
+        ..=64 => up_to::<64, 768>(switches, rows, names, text, out_rows, out_bindings),
+        ..=256 => up_to::<256, 3072>(switches, rows, names, text, out_rows, out_bindings),
+        ..=1024 => up_to::<1024, 12288>(switches, rows, names, text, out_rows, out_bindings),
+        ..=4096 => up_to::<4096, 49152>(switches, rows, names, text, out_rows, out_bindings),
+        _ => up_to::<16384, 196608>(switches, rows, names, text, out_rows, out_bindings),
     }
-    if size <= 256 {
-        return up_to_256(switches, rows, names, text, out_rows, out_bindings);
-    }
-    if size <= 1024 {
-        return up_to_1024(switches, rows, names, text, out_rows, out_bindings);
-    }
-    if size <= 4096 {
-        return up_to_4096(switches, rows, names, text, out_rows, out_bindings);
-    }
-    up_to_16384(switches, rows, names, text, out_rows, out_bindings)
 }
 
 // The result of a table that refusals 1, 3 to 8 and 21 to 25 leave: the rows as they are where the
@@ -189,7 +77,7 @@ pub fn result(
     text: &[u8],
     out_rows: &mut [u8],
     out_bindings: &mut [u8],
-) -> Converted
+) -> Result<Converted, Refusal>
     requires { Accepted 16384 128 (switches_of switches) rows.now names.now text.now }
     ensures { Gives (switches_of switches) rows.now names.now text.now result
         out_rows.old out_rows.new out_bindings.old out_bindings.new }

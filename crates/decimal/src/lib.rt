@@ -1,5 +1,7 @@
 // Writing bytes, and numbers in decimal. Each function writes from byte `at` on, drops what does not
 // fit, and answers where it stopped, as if there were room for all.
+// No struct holds slice and place: a caller goes on with a place of its own in a slice that it was lent, so the struct would be
+// made anew at each call, which is no plainer.
 
 #![tactic(auto)]
 
@@ -26,11 +28,9 @@ pub fn put_bytes(out: &mut [u8], at: usize, s: &[u8]) -> usize
     requires s_len_bound { length s.now < 2 ^ 60 }
     ensures { Wrote out.old at s.now result out.new }
 {
-    let mut i: usize = 0;
     let mut to = at;
-    while i < s.len() {
-        to = put_byte(out, to, s[i]);
-        i += 1;
+    for b in s {
+        to = put_byte(out, to, *b);
     }
     to
 }

@@ -9,6 +9,7 @@ use Rattle.grammar.specs.Kinds.{Body, Return}
 use Rattle.forest.specs.Forest.{Rows, Rows.none, Rows.node, size}
 use Rattle.steps.specs.ArrowToFunction.{dress}
 use Rattle.steps.specs.Slots.{wrapped}
+use Rattle.passes.specs.View.{slot_number}
 use Rattle.output.specs.Output.{put, set_end, Done}
 use Rattle.output.proofs.Writing.{nest, named, size-one}
 use Rattle.emit_plan.specs.declared.Walk.{Walk}
@@ -40,18 +41,15 @@ written true f {o} {o1} {o2} {o3} {at} {r} {next} e p d c =
 written false f {o} {o1} {o2} {o3} {at} {r} {next} e p d c =
     subst (λ (x : List ℕ). Done o at f next x) (sym c) (subst (λ (x : ℕ). Done o x f next o2) e (subst (λ (x : List ℕ). Done x r f next o2) p d))
 
-module _ (rows names text M : List ℕ) (v : Walk) (p : Plan) where
-  abbrev wraps : Bool
-  wraps = eqb p.slot wrapped
-
+module _ (rows names text : List ℕ) (v : Walk) (p : Plan) (wraps : Bool) (q : wraps ≡ eqb (slot_number p.slot) wrapped) where
   abbrev inner : Rows
-  inner = built rows names text M v p none
+  inner = built rows names text v p none
 
-  dressed_is : dressed rows names text M v p ≡ bodied wraps inner
+  dressed_is : dressed rows names text v p ≡ bodied wraps inner
   unfolding dress
-  dressed_is = refl
+  dressed_is = rw q refl
 
-  module _ (at : ℕ) (h : at + size (dressed rows names text M v p) < 2 ^ 32) where
+  module _ (at : ℕ) (h : at + size (dressed rows names text v p) < 2 ^ 32) where
     room : at + size (bodied wraps inner) < 2 ^ 32
     room = subst (λ (t : Rows). at + size t < 2 ^ 32) dressed_is h
 
@@ -62,5 +60,5 @@ module _ (rows names text M : List ℕ) (v : Walk) (p : Plan) where
     inner_room e = room_inside wraps inner at e room
 
   pub dressed_written : {o o1 o2 o3 : List ℕ} {at r next : ℕ} → r ≡ cond wraps (at + 2) at → o1 ≡ opened wraps o at → Done o1 r inner next o2
-      → o3 ≡ cond wraps (set_end (set_end o2 (at + 1) next) at next) o2 → Done o at (dressed rows names text M v p) next o3
-  dressed_written e q d c = named dressed_is (written wraps inner e q d c)
+      → o3 ≡ cond wraps (set_end (set_end o2 (at + 1) next) at next) o2 → Done o at (dressed rows names text v p) next o3
+  dressed_written e w d c = named dressed_is (written wraps inner e w d c)

@@ -24,7 +24,7 @@ use Rattle.steps.specs.Context.{Spot, spot, enter, into, act_c}
 use Rattle.steps.specs.Walk.{build}
 use Rattle.steps.specs.Fused.{Pass, pass_of, top_s, build_s, emit_s}
 use Rattle.below.specs.Below.{children}
-use Rattle.passes.specs.View.{op_of}
+use Rattle.passes.specs.View.{slot_number, state_number, op_of}
 use Rattle.acts.specs.View.{switches_of}
 use Rattle.plan.specs.Placing.{place_of}
 use Rattle.output.specs.Output.{Done}
@@ -69,7 +69,7 @@ module _ (N : Names) (bs : List Binding) (c : Ctx) (b : ℕ) where
       go true = refl
       go false = built_join met first x i s
 
-module _ (rows names text M : List ℕ) (v : Walk) (good : Nested (words rows) (rows_in rows)) where
+module _ (rows names text : List ℕ) (v : Walk) (good : Nested (words rows) (rows_in rows)) where
   abbrev ws : List ℕ
   ws = words rows
 
@@ -80,13 +80,13 @@ module _ (rows names text M : List ℕ) (v : Walk) (good : Nested (words rows) (
   w = switches_of v.switches
 
   abbrev bs : List Binding
-  bs = list_of M v
+  bs = list_of v
 
   -- what is written for a row, by its parts
   abbrev row_s : (q : Spot) (b k r : ℕ) (met first : Bool) (x : Op) → Rows → Rows
   row_s q b k r met first x i = dress q.slot (build_s N bs q.ctx b met first x (top_s N bs q.slot k r i)) none
 
-  module _ (b sc : ℕ) (q q' : Spot) (i e : ℕ) (R : Range ws (rows_in rows) i e) (lt : i < e) (p : Plan) (P : Planned N M ws v b sc q i p) where
+  module _ (b sc : ℕ) (q q' : Spot) (i e : ℕ) (R : Range ws (rows_in rows) i e) (lt : i < e) (p : Plan) (P : Planned N ws v b sc q i p) where
     abbrev A : Act
     A = act_c N w q i (kind_at ws i) (attr_at ws i) (name_at ws i) (children ws i)
 
@@ -109,7 +109,7 @@ module _ (rows names text M : List ℕ) (v : Walk) (good : Nested (words rows) (
     same-pass = rw (frame_is, P.does.becomes) refl
 
     -- the row as the steps have it
-    stepped : listed rows names text M v b sc q q' i e
+    stepped : listed rows names text v b sc q q' i e
         ≡ join (row_s q b (kind_at ws i) r S.met S.first A.op (emit_s N w bs S.bind S.scan (into w q A.one) (into w q A.more) (i + 1) (children ws i)))
         (emit_s N w bs b S.next q' q' (end_at ws i) (rows_at ws (end_at ws i) e))
     unfolding emit_s
@@ -119,36 +119,36 @@ module _ (rows names text M : List ℕ) (v : Walk) (good : Nested (words rows) (
         ∙ ap (λ (m : ℕ). join (row_s q b (kind_at ws i) r S.met S.first A.op (emit_s N w bs S.bind S.scan (into w q A.one) (into w q A.more) (i + 1) (children ws i))) (emit_s N w bs b S.next q' q' m (rows_at ws (end_at ws i) e)))
         (rows_size ws (rows_in rows) good (i + 1) (end_at ws i) (inner ws (rows_in rows) good i low))
 
-    inside_is : inside rows names text M v p.inner ≡ emit_s N w bs S.bind S.scan (into w q A.one) (into w q A.more) (i + 1) (children ws i)
+    inside_is : inside rows names text v p.inner ≡ emit_s N w bs S.bind S.scan (into w q A.one) (into w q A.more) (i + 1) (children ws i)
     inside_is = rw (P.says.bind, P.says.scan, same-pass, P.does.first, P.does.later, P.from, P.end) refl
 
-    dressed-from : (f : Rows) → row_s (spot (place_of p.spot).ctx p.slot) p.bind p.words.kind (frame_in p) p.met p.first (op_of p.op) f ≡ row_s q b (kind_at ws i) r S.met S.first A.op f
+    dressed-from : (f : Rows) → row_s (spot (place_of p.spot).ctx (slot_number p.slot)) p.bind p.words.kind (frame_in p) p.met p.first (op_of p.op) f ≡ row_s q b (kind_at ws i) r S.met S.first A.op f
     dressed-from f =
         rw (P.bind, P.kind, frame_is, P.says.met, P.says.first, same-pass, P.does.becomes, P.slot)
         (ap (λ (s : Spot). row_s (spot s.ctx q.slot) b (kind_at ws i) r S.met S.first A.op f) P.spot)
 
-    dressed_is : dressed rows names text M v p ≡ row_s q b (kind_at ws i) r S.met S.first A.op (inside rows names text M v p.inner)
-    dressed_is = dressed-from (inside rows names text M v p.inner)
+    dressed_is : dressed rows names text v p ≡ row_s q b (kind_at ws i) r S.met S.first A.op (inside rows names text v p.inner)
+    dressed_is = dressed-from (inside rows names text v p.inner)
 
-    pub plan-step : listed rows names text M v b sc q q' i e ≡ join (dressed rows names text M v p) (listed rows names text M v b p.next q' q' p.inner.end e)
+    pub plan-step : listed rows names text v b sc q q' i e ≡ join (dressed rows names text v p) (listed rows names text v b (state_number p.next) q' q' p.inner.end e)
     plan-step =
         stepped
         ∙ ap (λ (t : Rows). join t (emit_s N w bs b S.next q' q' (end_at ws i) (rows_at ws (end_at ws i) e))) (sym (dressed_is ∙ ap (row_s q b (kind_at ws i) r S.met S.first A.op) inside_is))
-        ∙ ap (λ (m : ℕ). join (dressed rows names text M v p) (emit_s N w bs b m q' q' (end_at ws i) (rows_at ws (end_at ws i) e))) (sym (P.says.next ∙ ap (λ (s : Pass). s.next) same-pass))
-        ∙ ap (λ (m : ℕ). join (dressed rows names text M v p) (emit_s N w bs b p.next q' q' m (rows_at ws m e))) (sym P.end)
+        ∙ ap (λ (m : ℕ). join (dressed rows names text v p) (emit_s N w bs b m q' q' (end_at ws i) (rows_at ws (end_at ws i) e))) (sym (P.says.next ∙ ap (λ (s : Pass). s.next) same-pass))
+        ∙ ap (λ (m : ℕ). join (dressed rows names text v p) (emit_s N w bs b (state_number p.next) q' q' m (rows_at ws m e))) (sym P.end)
 
 -- the walk of a list: what is left gives what there was to do
-pub record Turning (rows names text M : List ℕ) (v : Walk) (b sc₀ : ℕ) (q₀ more : Spot) (from e : ℕ) (out₀ : List ℕ) (at i : ℕ) (q : Spot) (sc : ℕ) (out : List ℕ) (next : ℕ) : Type 0 where
-  pub left : Left out₀ at (listed rows names text M v b sc₀ q₀ more from e) out next (listed rows names text M v b sc q more i e)
+pub record Turning (rows names text : List ℕ) (v : Walk) (b sc₀ : ℕ) (q₀ more : Spot) (from e : ℕ) (out₀ : List ℕ) (at i : ℕ) (q : Spot) (sc : ℕ) (out : List ℕ) (next : ℕ) : Type 0 where
+  pub left : Left out₀ at (listed rows names text v b sc₀ q₀ more from e) out next (listed rows names text v b sc q more i e)
   pub range : Range (words rows) (rows_in rows) i e
   pub start : from ≤ i
-  pub low : FramesBelow v.cap q.ctx
+  pub low : FramesBelow v.bindings.cap q.ctx
 
-module _ {rows names text M : List ℕ} {v : Walk} {b sc₀ : ℕ} {q₀ more : Spot} {from e : ℕ} {out₀ : List ℕ} {at i : ℕ} {q : Spot} {sc : ℕ} {out : List ℕ} {next : ℕ}
-    (T : Turning rows names text M v b sc₀ q₀ more from e out₀ at i q sc out next) (good : Nested (words rows) (rows_in rows)) where
-  module _ (lt : i < e) {p : Plan} (P : Planned (names_of names text) M (words rows) v b sc q i p) where
+module _ {rows names text : List ℕ} {v : Walk} {b sc₀ : ℕ} {q₀ more : Spot} {from e : ℕ} {out₀ : List ℕ} {at i : ℕ} {q : Spot} {sc : ℕ} {out : List ℕ} {next : ℕ}
+    (T : Turning rows names text v b sc₀ q₀ more from e out₀ at i q sc out next) (good : Nested (words rows) (rows_in rows)) where
+  module _ (lt : i < e) {p : Plan} (P : Planned (names_of names text) (words rows) v b sc q i p) where
     abbrev all : Rows
-    all = listed rows names text M v b sc₀ q₀ more from e
+    all = listed rows names text v b sc₀ q₀ more from e
 
     below : i < rows_in rows
     below = let h = T.range.within in omega arith
@@ -160,16 +160,16 @@ module _ {rows names text M : List ℕ} {v : Walk} {b sc₀ : ℕ} {q₀ more : 
     up = subst (λ (x : ℕ). x ≤ e) (sym P.end) (T.range.closed i (omega arith) lt)
 
     -- what the walker of the row needs
-    pub row_room : at + size all < 2 ^ 32 → next + size (dressed rows names text M v p) < 2 ^ 32
-    row_room h = omega (arith, room_left (dressed rows names text M v p) (listed rows names text M v b p.next more more p.inner.end e) T.left (plan-step rows names text M v good b sc q more i e T.range lt p P) h)
+    pub row_room : at + size all < 2 ^ 32 → next + size (dressed rows names text v p) < 2 ^ 32
+    row_room h = omega (arith, room_left (dressed rows names text v p) (listed rows names text v b (state_number p.next) more more p.inner.end e) T.left (plan-step rows names text v good b sc q more i e T.range lt p P) h)
 
     pub row-fewer : (k t : ℕ) → k < 8 → 8 * (e - from) ≡ t → 8 * (p.inner.end - p.inner.from) + k < t
     row-fewer k t h m = let a = ahead in let u = up in let s = T.start in let r = P.from in omega arith
 
-    pub turn_on : FramesBelow v.cap more.ctx → {out' : List ℕ} {r : ℕ} → Done out next (dressed rows names text M v p) r out'
-        → Turning rows names text M v b sc₀ q₀ more from e out₀ at p.inner.end more p.next out' r
+    pub turn_on : FramesBelow v.bindings.cap more.ctx → {out' : List ℕ} {r : ℕ} → Done out next (dressed rows names text v p) r out'
+        → Turning rows names text v b sc₀ q₀ more from e out₀ at p.inner.end more (state_number p.next) out' r
     turn_on m {out'} {r} d = record {
-      left = turn T.left (plan-step rows names text M v good b sc q more i e T.range lt p P) d;
+      left = turn T.left (plan-step rows names text v good b sc q more i e T.range lt p P) d;
       range = subst (λ (x : ℕ). Range (words rows) (rows_in rows) x e) (sym P.end) (later (words rows) (rows_in rows) good i e T.range lt);
       start = let a = ahead in let s = T.start in omega arith;
       low = m;
@@ -178,6 +178,6 @@ module _ {rows names text M : List ℕ} {v : Walk} {b sc₀ : ℕ} {q₀ more : 
     pub turn-less : e - p.inner.end < e - i
     turn-less = let a = ahead in let u = up in omega arith
 
-  pub turned : e ≤ i → Done out₀ at (listed rows names text M v b sc₀ q₀ more from e) next out
+  pub turned : e ≤ i → Done out₀ at (listed rows names text v b sc₀ q₀ more from e) next out
   unfolding emit_s
-  turned h = none_left T.left (ap (emit_s (names_of names text) (switches_of v.switches) (list_of M v) b sc q more i) (rows_none (words rows) i e h))
+  turned h = none_left T.left (ap (emit_s (names_of names text) (switches_of v.switches) (list_of v) b sc q more i) (rows_none (words rows) i e h))

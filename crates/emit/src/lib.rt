@@ -13,23 +13,16 @@ ghost use Rattle.plan.specs.Ranged.{Ranged};
 ghost use Rattle.emit_plan.specs.Plans.{Holds, emitted};
 
 use emit_plan::{Siblings, Walk};
-use passes::states::COPY;
+use passes::states::State;
 use plan::place::program;
 use walkers::list;
 
 // The whole result, from row 0 on. Over no bytes it only counts.
-pub fn emit(
-    rows: &[u8],
-    names: &[u8],
-    text: &[u8],
-    made: &[u32],
-    walk: Walk,
-    out: &mut [u8],
-) -> usize
+pub fn emit(rows: &[u8], names: &[u8], text: &[u8], walk: Walk<'_>, out: &mut [u8]) -> usize
     requires ranged { Ranged rows.now 0 (rows_in rows.now) × GivenNames names.now text.now }
-    requires holds { Holds names.now text.now made.now walk (rows_in rows.now) }
-    requires walk_bound { size (emitted rows.now names.now text.now made.now walk) < 2 ^ 32 }
-    ensures { Done out.old 0 (emitted rows.now names.now text.now made.now walk) result out.new }
+    requires holds { Holds names.now text.now walk (rows_in rows.now) }
+    requires walk_bound { size (emitted rows.now names.now text.now walk) < 2 ^ 32 }
+    ensures { Done out.old 0 (emitted rows.now names.now text.now walk.entry) result out.new }
 {
     let n = rows.len() / 16;
     let start = program();
@@ -37,9 +30,9 @@ pub fn emit(
         from: 0,
         end: n,
         bind: 0,
-        state: COPY,
+        state: State::Copy,
         one: start,
         more: start,
     };
-    list(rows, names, text, made, walk, all, out, 0)
+    list(rows, names, text, walk, all, out, 0)
 }

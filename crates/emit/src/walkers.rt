@@ -1,12 +1,13 @@
 // The walkers: "Statements hold expressions, which hold functions and classes, which hold statements."
 // Each writes what a plan says from row `at` on, and the answer is the next row's number.
-ghost use Rattle.std.specs.Prelude.{◌≡◌, Bool, true, false, ◌||◌, eqb, ℕ, ◌+◌, ◌*◌, ◌-◌, ◌<◌, ◌≤◌, ◌^◌};
+ghost use Rattle.std.specs.Prelude.{◌≡◌, Bool, true, false, eqb, ℕ, ◌+◌, ◌*◌, ◌-◌, ◌<◌, ◌≤◌, ◌^◌};
 ghost use Rattle.grammar.specs.Kinds.{Ident, Member, Call, Sequence};
 ghost use Rattle.forest.specs.Forest.{Rows.none, Rows.node, size};
 ghost use Rattle.steps.specs.Outcome.{names_of};
 ghost use Rattle.steps.specs.Slots.{wrapped};
 ghost use Rattle.steps.specs.AfterSuper as after;
 ghost use Rattle.steps.specs.Bindings.{number};
+ghost use Rattle.passes.specs.View.{slot_number, access_number};
 ghost use Rattle.output.specs.Output.{Done};
 ghost use Rattle.plan.specs.Placing.{place_of};
 ghost use Rattle.emit_plan.specs.Walkers.{is_statement};
@@ -23,8 +24,8 @@ use emit_plan::{Plan, Siblings, Walk};
 use grammar::kinds;
 use inserted::assignment;
 use output::{append, patch_end};
-use passes::Becomes;
-use passes::slots::WRAPPED;
+use passes::slots::Slot;
+use passes::{Access, Becomes};
 use plan::place::Place;
 
 const EXPR_STMT: u32 = kinds::EXPR_STMT as u32;
@@ -41,15 +42,14 @@ pub fn list(
     rows: &[u8],
     names: &[u8],
     text: &[u8],
-    made: &[u32],
-    walk: Walk,
+    walk: Walk<'_>,
     siblings: Siblings,
     out: &mut [u8],
     at: usize,
 ) -> usize
-    requires inner_pre { InnerPre rows.now names.now text.now made.now walk siblings }
-    requires siblings_bound { at + size (inside rows.now names.now text.now made.now walk siblings) < 2 ^ 32 }
-    ensures { Done out.old at (inside rows.now names.now text.now made.now walk siblings) result out.new }
+    requires inner_pre { InnerPre rows.now names.now text.now walk siblings }
+    requires siblings_bound { at + size (inside rows.now names.now text.now walk siblings) < 2 ^ 32 }
+    ensures { Done out.old at (inside rows.now names.now text.now walk.entry siblings) result out.new }
 {
     let end = siblings.end;
     let bind = siblings.bind;
@@ -62,15 +62,15 @@ pub fn list(
         if stays_at(rows, walk.switches, state, q, i) {
             let head = words_at(rows, i);
             let inner = along(rows, bind, state, q, i);
-            next = around(rows, names, text, made, walk, inner, head, out, next);
+            next = around(rows, names, text, walk, inner, head, out, next);
             i = inner.end;
         } else {
-            let plan = plan_at(rows, names, text, made, walk, bind, state, q, i);
+            let plan = plan_at(rows, names, text, walk, bind, state, q, i);
             let statement_kind = is_statement(plan.words.kind);
-            if statement_kind & !(plan.slot == WRAPPED) {
-                next = statement(rows, names, text, made, walk, plan, out, next);
+            if statement_kind & !(plan.slot == Slot::Wrapped) {
+                next = statement(rows, names, text, walk, plan, out, next);
             } else {
-                next = expression(rows, names, text, made, walk, plan, out, next);
+                next = expression(rows, names, text, walk, plan, out, next);
             }
             i = plan.inner.end;
             state = plan.next;
@@ -86,17 +86,16 @@ fn around(
     rows: &[u8],
     names: &[u8],
     text: &[u8],
-    made: &[u32],
-    walk: Walk,
+    walk: Walk<'_>,
     inner: Siblings,
     head: Words,
     out: &mut [u8],
     at: usize,
 ) -> usize
-    requires inner_pre { InnerPre rows.now names.now text.now made.now walk inner }
+    requires inner_pre { InnerPre rows.now names.now text.now walk inner }
     requires fit { Fit head.kind head.attr head.name }
-    requires inner_bound { at + (1 + size (inside rows.now names.now text.now made.now walk inner)) < 2 ^ 32 }
-    ensures { Done out.old at (node head.kind head.attr head.name (inside rows.now names.now text.now made.now walk inner) none) result out.new }
+    requires inner_bound { at + (1 + size (inside rows.now names.now text.now walk inner)) < 2 ^ 32 }
+    ensures { Done out.old at (node head.kind head.attr head.name (inside rows.now names.now text.now walk.entry inner) none) result out.new }
 {
     if inner.end <= inner.from {
         return append(
@@ -116,7 +115,7 @@ fn around(
         head.name as u32,
         0,
     );
-    let next = list(rows, names, text, made, walk, inner, out, first);
+    let next = list(rows, names, text, walk, inner, out, first);
     patch_end(out, at, next as u32);
     next
 }
@@ -127,20 +126,17 @@ fn statement(
     rows: &[u8],
     names: &[u8],
     text: &[u8],
-    made: &[u32],
-    walk: Walk,
+    walk: Walk<'_>,
     plan: Plan,
     out: &mut [u8],
     at: usize,
 ) -> usize
-    requires row_pre { RowPre rows.now names.now text.now made.now walk plan }
-    requires kind_value { (is_statement plan.words.kind ≡ true) × (eqb plan.slot wrapped ≡ false) }
-    requires plan_bound { at + size (dressed rows.now names.now text.now made.now walk plan) < 2 ^ 32 }
-    ensures { Done out.old at (dressed rows.now names.now text.now made.now walk plan) result out.new }
+    requires row_pre { RowPre rows.now names.now text.now walk plan }
+    requires kind_value { (is_statement plan.words.kind ≡ true) × (eqb (slot_number plan.slot) wrapped ≡ false) }
+    requires plan_bound { at + size (dressed rows.now names.now text.now walk plan) < 2 ^ 32 }
+    ensures { Done out.old at (dressed rows.now names.now text.now walk.entry plan) result out.new }
 {
-    let next = around(
-        rows, names, text, made, walk, plan.inner, plan.words, out, at,
-    );
+    let next = around(rows, names, text, walk, plan.inner, plan.words, out, at);
     if !plan.first {
         return next;
     }
@@ -156,20 +152,19 @@ fn expression(
     rows: &[u8],
     names: &[u8],
     text: &[u8],
-    made: &[u32],
-    walk: Walk,
+    walk: Walk<'_>,
     plan: Plan,
     out: &mut [u8],
     at: usize,
 ) -> usize
-    requires row_pre { RowPre rows.now names.now text.now made.now walk plan }
+    requires row_pre { RowPre rows.now names.now text.now walk plan }
     requires first_value { plan.first ≡ false }
-    requires plan_bound { at + size (dressed rows.now names.now text.now made.now walk plan) < 2 ^ 32 }
-    ensures { Done out.old at (dressed rows.now names.now text.now made.now walk plan) result out.new }
+    requires plan_bound { at + size (dressed rows.now names.now text.now walk plan) < 2 ^ 32 }
+    ensures { Done out.old at (dressed rows.now names.now text.now walk.entry plan) result out.new }
 {
-    let wraps = plan.slot == WRAPPED;
+    let wraps = plan.slot == Slot::Wrapped;
     let inner = open_body(out, at, wraps);
-    let next = undressed(rows, names, text, made, walk, plan, out, inner);
+    let next = undressed(rows, names, text, walk, plan, out, inner);
     close_body(out, at, wraps, next as u32);
     next
 }
@@ -180,20 +175,19 @@ fn undressed(
     rows: &[u8],
     names: &[u8],
     text: &[u8],
-    made: &[u32],
-    walk: Walk,
+    walk: Walk<'_>,
     plan: Plan,
     out: &mut [u8],
     at: usize,
 ) -> usize
-    requires row_pre { RowPre rows.now names.now text.now made.now walk plan }
+    requires row_pre { RowPre rows.now names.now text.now walk plan }
     requires first_value { plan.first ≡ false }
-    requires none_bound { at + size (built rows.now names.now text.now made.now walk plan none) < 2 ^ 32 }
-    ensures { Done out.old at (built rows.now names.now text.now made.now walk plan none) result out.new }
+    requires none_bound { at + size (built rows.now names.now text.now walk plan none) < 2 ^ 32 }
+    ensures { Done out.old at (built rows.now names.now text.now walk.entry plan none) result out.new }
 {
     if plan.met {
         return sequence(
-            rows, names, text, made, walk, plan.inner, plan.words, plan.bind, out, at,
+            rows, names, text, walk, plan.inner, plan.words, plan.bind, out, at,
         );
     }
     let op = plan.op;
@@ -204,7 +198,6 @@ fn undressed(
                 rows,
                 names,
                 text,
-                made,
                 walk,
                 plan.inner,
                 plan.slot,
@@ -214,9 +207,13 @@ fn undressed(
                 at,
             )
         }
-        Becomes::Drop => list(rows, names, text, made, walk, plan.inner, out, at),
+        Becomes::Drop => list(rows, names, text, walk, plan.inner, out, at),
         Becomes::Name { usage, frame } => {
-            captured_identifier(made, walk.cap, usage, frame, out, at)
+            let opened = Frame {
+                bindings: walk.bindings,
+                row: frame,
+            };
+            captured_identifier(opened, usage, out, at)
         }
         Becomes::Call {
             usage,
@@ -226,12 +223,11 @@ fn undressed(
         } => {
             if called {
                 return transform_call_expression_for_super(
-                    rows, names, text, made, walk, plan.inner, plan.spot, frame, usage, property,
-                    out, at,
+                    rows, names, text, walk, plan.inner, plan.spot, frame, usage, property, out, at,
                 );
             }
             transform_member_expression_for_super(
-                rows, names, text, made, walk, plan.inner, frame, usage, property, out, at,
+                rows, names, text, walk, plan.inner, frame, usage, property, out, at,
             )
         }
     }
@@ -243,29 +239,26 @@ fn kept(
     rows: &[u8],
     names: &[u8],
     text: &[u8],
-    made: &[u32],
-    walk: Walk,
+    walk: Walk<'_>,
     inner: Siblings,
-    slot: usize,
+    slot: Slot,
     kind: usize,
     head: Words,
     out: &mut [u8],
     at: usize,
 ) -> usize
-    requires inner_pre { InnerPre rows.now names.now text.now made.now walk inner }
+    requires inner_pre { InnerPre rows.now names.now text.now walk inner }
     requires fit { Fit head.kind head.attr head.name }
-    requires inner_bound { at + (1 + size (topped rows.now names.now text.now made.now walk slot kind inner)) < 2 ^ 32 }
-    ensures { Done out.old at (node head.kind head.attr head.name (topped rows.now names.now text.now made.now walk slot kind inner) none) result out.new }
+    requires inner_bound { at + (1 + size (topped rows.now names.now text.now walk (slot_number slot) kind inner)) < 2 ^ 32 }
+    ensures { Done out.old at (node head.kind head.attr head.name (topped rows.now names.now text.now walk.entry (slot_number slot) kind inner) none) result out.new }
 {
     if is_function(kind) {
-        return function(
-            rows, names, text, made, walk, inner, slot, kind, head, out, at,
-        );
+        return function(rows, names, text, walk, inner, slot, kind, head, out, at);
     }
     if is_class(kind) {
-        return class(rows, names, text, made, walk, inner, head, out, at);
+        return class(rows, names, text, walk, inner, head, out, at);
     }
-    around(rows, names, text, made, walk, inner, head, out, at)
+    around(rows, names, text, walk, inner, head, out, at)
 }
 
 // A part of a function, or another row that may close a frame: the frame's Var goes first.
@@ -274,19 +267,18 @@ fn function(
     rows: &[u8],
     names: &[u8],
     text: &[u8],
-    made: &[u32],
-    walk: Walk,
+    walk: Walk<'_>,
     inner: Siblings,
-    slot: usize,
+    slot: Slot,
     kind: usize,
     head: Words,
     out: &mut [u8],
     at: usize,
 ) -> usize
-    requires inner_pre { InnerPre rows.now names.now text.now made.now walk inner }
+    requires inner_pre { InnerPre rows.now names.now text.now walk inner }
     requires fit { Fit head.kind head.attr head.name }
-    requires inner_bound { at + (1 + size (topped rows.now names.now text.now made.now walk slot kind inner)) < 2 ^ 32 }
-    ensures { Done out.old at (node head.kind head.attr head.name (topped rows.now names.now text.now made.now walk slot kind inner) none) result out.new }
+    requires inner_bound { at + (1 + size (topped rows.now names.now text.now walk (slot_number slot) kind inner)) < 2 ^ 32 }
+    ensures { Done out.old at (node head.kind head.attr head.name (topped rows.now names.now text.now walk.entry (slot_number slot) kind inner) none) result out.new }
 {
     let first = append(
         out,
@@ -298,8 +290,8 @@ fn function(
     );
     let more = inner.more;
     let frame = more.this_at();
-    let top = insert_at_the_top(made, walk, slot, kind, frame, out, first);
-    let next = list(rows, names, text, made, walk, inner, out, top);
+    let top = insert_at_the_top(walk, slot, kind, frame, out, first);
+    let next = list(rows, names, text, walk, inner, out, top);
     patch_end(out, at, next as u32);
     next
 }
@@ -310,19 +302,18 @@ fn class(
     rows: &[u8],
     names: &[u8],
     text: &[u8],
-    made: &[u32],
-    walk: Walk,
+    walk: Walk<'_>,
     inner: Siblings,
     head: Words,
     out: &mut [u8],
     at: usize,
 ) -> usize
-    requires inner_pre { InnerPre rows.now names.now text.now made.now walk inner }
+    requires inner_pre { InnerPre rows.now names.now text.now walk inner }
     requires fit { Fit head.kind head.attr head.name }
-    requires inner_bound { at + (1 + size (inside rows.now names.now text.now made.now walk inner)) < 2 ^ 32 }
-    ensures { Done out.old at (node head.kind head.attr head.name (inside rows.now names.now text.now made.now walk inner) none) result out.new }
+    requires inner_bound { at + (1 + size (inside rows.now names.now text.now walk inner)) < 2 ^ 32 }
+    ensures { Done out.old at (node head.kind head.attr head.name (inside rows.now names.now text.now walk.entry inner) none) result out.new }
 {
-    around(rows, names, text, made, walk, inner, head, out, at)
+    around(rows, names, text, walk, inner, head, out, at)
 }
 
 // A called Super, in a Sequence with the assignment of binding `b`.
@@ -331,21 +322,20 @@ fn sequence(
     rows: &[u8],
     names: &[u8],
     text: &[u8],
-    made: &[u32],
-    walk: Walk,
+    walk: Walk<'_>,
     inner: Siblings,
     head: Words,
     b: usize,
     out: &mut [u8],
     at: usize,
 ) -> usize
-    requires inner_pre { InnerPre rows.now names.now text.now made.now walk inner }
+    requires inner_pre { InnerPre rows.now names.now text.now walk inner }
     requires fit { Fit head.kind head.attr head.name × (b ≤ 16384) }
-    requires inner_bound { at + (6 + size (inside rows.now names.now text.now made.now walk inner)) < 2 ^ 32 }
-    ensures { Done out.old at (node Sequence 0 0 (node head.kind head.attr head.name (inside rows.now names.now text.now made.now walk inner) (after.assignment b)) none) result out.new }
+    requires inner_bound { at + (6 + size (inside rows.now names.now text.now walk inner)) < 2 ^ 32 }
+    ensures { Done out.old at (node Sequence 0 0 (node head.kind head.attr head.name (inside rows.now names.now text.now walk.entry inner) (after.assignment b)) none) result out.new }
 {
     let first = append(out, at, SEQUENCE, 0, 0, 0);
-    let next = around(rows, names, text, made, walk, inner, head, out, first);
+    let next = around(rows, names, text, walk, inner, head, out, first);
     let last = assignment(out, next, b as u32);
     patch_end(out, at, last as u32);
     last
@@ -357,28 +347,26 @@ fn transform_member_expression_for_super(
     rows: &[u8],
     names: &[u8],
     text: &[u8],
-    made: &[u32],
-    walk: Walk,
+    walk: Walk<'_>,
     inner: Siblings,
     frame: usize,
-    usage: usize,
+    usage: Access,
     property: usize,
     out: &mut [u8],
     at: usize,
 ) -> usize
-    requires inner_pre { InnerPre rows.now names.now text.now made.now walk inner }
-    requires frame_lt_cap { (frame < walk.cap) × ((eqb usage 3 || eqb usage 4) ≡ true) }
-    requires inner_bound { at + (2 + size (inside rows.now names.now text.now made.now walk inner)) < 2 ^ 32 }
-    ensures { Done out.old at (node Call 0 0 (node Ident 1 (number (names_of names.now text.now) (list_of made.now walk) usage frame property) none (inside rows.now names.now text.now made.now walk inner)) none) result out.new }
+    requires inner_pre { InnerPre rows.now names.now text.now walk inner }
+    requires frame_lt_cap { frame < walk.bindings.cap }
+    requires inner_bound { at + (2 + size (inside rows.now names.now text.now walk inner)) < 2 ^ 32 }
+    ensures { Done out.old at (node Call 0 0 (node Ident 1 (number (names_of names.now text.now) (list_of walk.entry) (access_number usage) frame property) none (inside rows.now names.now text.now walk.entry inner)) none) result out.new }
 {
     let callee = append(out, at, CALL, 0, 0, 0);
-    let cap = walk.cap;
     let opened = Frame {
+        bindings: walk.bindings,
         row: frame,
-        count: walk.count,
     };
-    let first = accessor_identifier(names, text, made, cap, opened, usage, property, out, callee);
-    let next = list(rows, names, text, made, walk, inner, out, first);
+    let first = accessor_identifier(names, text, opened, usage, property, out, callee);
+    let next = list(rows, names, text, walk, inner, out, first);
     patch_end(out, at, next as u32);
     next
 }
@@ -389,26 +377,25 @@ fn transform_call_expression_for_super(
     rows: &[u8],
     names: &[u8],
     text: &[u8],
-    made: &[u32],
-    walk: Walk,
+    walk: Walk<'_>,
     inner: Siblings,
     q: Place,
     frame: usize,
-    usage: usize,
+    usage: Access,
     property: usize,
     out: &mut [u8],
     at: usize,
 ) -> usize
-    requires inner_pre { InnerPre rows.now names.now text.now made.now walk inner }
-    requires q_bound { ((place_of q).ctx.this_at < walk.cap) × ((frame < walk.cap) × ((eqb usage 3 || eqb usage 4) ≡ true)) }
-    requires inner_bound { at + (4 + size (inside rows.now names.now text.now made.now walk inner)) < 2 ^ 32 }
-    ensures { Done out.old at (node Member 1 0 (node Call 0 0 (node Ident 1 (number (names_of names.now text.now) (list_of made.now walk) usage frame property) none (inside rows.now names.now text.now made.now walk inner)) none) (this_row made.now walk.cap (place_of q).ctx.takes_this (place_of q).ctx.this_at)) result out.new }
+    requires inner_pre { InnerPre rows.now names.now text.now walk inner }
+    requires q_bound { ((place_of q).ctx.this_at < walk.bindings.cap) × (frame < walk.bindings.cap) }
+    requires inner_bound { at + (4 + size (inside rows.now names.now text.now walk inner)) < 2 ^ 32 }
+    ensures { Done out.old at (node Member 1 0 (node Call 0 0 (node Ident 1 (number (names_of names.now text.now) (list_of walk.entry) (access_number usage) frame property) none (inside rows.now names.now text.now walk.entry inner)) none) (this_row walk.entry.bindings.made.now walk.entry.bindings.cap (place_of q).ctx.takes_this (place_of q).ctx.this_at)) result out.new }
 {
     let call = append(out, at, MEMBER, 1, 0, 0);
     let this = transform_member_expression_for_super(
-        rows, names, text, made, walk, inner, frame, usage, property, out, call,
+        rows, names, text, walk, inner, frame, usage, property, out, call,
     );
     patch_end(out, at, this as u32);
     let spot = q.spot();
-    get_this_identifier(made, walk.cap, spot.context, out, this)
+    get_this_identifier(walk.bindings, spot.context, out, this)
 }

@@ -1,5 +1,5 @@
 -- What a row's kind says of its plan. Assumes nothing.
-use mathlib.Core.Path.{◌≡◌, refl, ap, sym, subst, ◌∙◌}
+use mathlib.Core.Path.{◌≡◌, refl, sym, subst, ◌∙◌}
 use mathlib.Core.Bool.{Bool, true, false, cond, ◌&&◌, ◌||◌, true≢false}
 use Prim.Native.Nat.{ℕ}
 use lib.Dec.{eqb}
@@ -10,7 +10,7 @@ use Rattle.steps.specs.Mode.{Switches}
 use Rattle.steps.specs.Naming.{Names}
 use Rattle.steps.specs.Slots.{wrapped}
 use Rattle.steps.specs.AfterSuper.{list, copy, members}
-use Rattle.steps.specs.Acts.{Ctx, Op, Op.row, act, act_of, kind_of}
+use Rattle.steps.specs.Acts.{Ctx, Op.row, act, act_of, kind_of}
 use Rattle.steps.specs.Bindings.{closes}
 use Rattle.steps.specs.Fused.{met_of, direct_of, within, own}
 use Rattle.emit_plan.specs.Walkers.{is_statement, is_function, is_row}

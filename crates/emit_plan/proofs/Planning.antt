@@ -2,10 +2,9 @@
 use mathlib.Core.Path.{◌≡◌, refl, ap, sym, subst, ◌∙◌}
 use mathlib.Core.Bool.{Bool, true, false, cond}
 use mathlib.Core.List.{List}
-use Prim.Native.Nat.{ℕ, ◌+◌, ◌*◌, ◌≤◌, ◌<◌}
+use Prim.Native.Nat.{ℕ, ◌+◌, ◌≤◌, ◌<◌}
 use native.Mathlib.Omega.{arith}
 use lib.Dec.{eqb}
-use lib.ListN.{get_or}
 use Rattle.names.specs.Words.{words, rows_in, kind_at, attr_at, name_at, end_at}
 use Rattle.forest.specs.Nested.{Range}
 use Rattle.forest.proofs.Walking.{inner}
@@ -21,12 +20,14 @@ use Rattle.steps.specs.Bindings.{number, closes}
 use Rattle.steps.specs.Context.{Spot, act_c, late_c}
 use Rattle.steps.specs.Fused.{pass_of, met_of, direct_of, own, anew}
 use Rattle.steps.proofs.Numbering.{number-low}
+use Rattle.bindings.specs.Store.{this_at}
 use Rattle.bindings.proofs.Arrays.{binds-length}
 use Rattle.bindings.proofs.Numbered.{this_number}
 use Rattle.passes.specs.declared.Pass.{Pass as Passed}
 use Rattle.plan.specs.declared.Act.{Act as Acted}
 use Rattle.plan.specs.declared.place.Place.{Place}
-use Rattle.passes.specs.View.{op_of, Says}
+use Rattle.passes.specs.declared.slots.Slot.{Slot}
+use Rattle.passes.specs.View.{slot_number, op_of, Says}
 use Rattle.below.specs.Below.{At, children}
 use Rattle.acts.specs.View.{switches_of}
 use Rattle.plan.specs.Placing.{place_of}
@@ -39,21 +40,21 @@ use Rattle.emit_plan.specs.Walkers.{is_statement, is_row}
 use Rattle.emit_plan.specs.Plans.{list_of, Holds, Formed, RowPre, Planned, act_in, frame_in}
 use Rattle.emit_plan.proofs.Formed.{statement_op, met_op, rowless_open, statement_met, statement_open, met_open, other-first, dressed_first}
 
-module _ (rows names text M : List ℕ) (v : Walk) (b sc : ℕ) (q : Spot) (i : ℕ) (p : Plan) where
+module _ (rows names text : List ℕ) (v : Walk) (b sc : ℕ) (q : Spot) (i : ℕ) (p : Plan) where
   abbrev ws : List ℕ
   ws = words rows
 
   abbrev N : Names
   N = names_of names text
 
-  module _ (P : Planned N M ws v b sc q i p) where
+  module _ (P : Planned N ws v b sc q i p) where
     abbrev w : Switches
     w = switches_of v.switches
 
     abbrev A : Act
     A = act_c N w q i (kind_at ws i) (attr_at ws i) (name_at ws i) (children ws i)
 
-    slot_is : p.slot ≡ q.slot
+    slot_is : slot_number p.slot ≡ q.slot
     slot_is = P.slot
 
     met-is : p.met ≡ met_of (own q.slot sc) (kind_at ws i) (first_super (children ws i))
@@ -67,7 +68,7 @@ module _ (rows names text M : List ℕ) (v : Walk) (b sc : ℕ) (q : Spot) (i : 
     words_are : row (kind_at ws i) (attr_at ws i) (name_at ws i) ≡ row p.words.kind p.words.attr p.words.name
     words_are = rw (P.kind, P.attr, P.name) refl
 
-    closes-is : closes p.slot p.words.kind ≡ closes q.slot (kind_at ws i)
+    closes-is : closes (slot_number p.slot) p.words.kind ≡ closes q.slot (kind_at ws i)
     closes-is = rw (slot_is, P.kind) refl
 
     statement-is : is_statement p.words.kind ≡ is_statement (kind_at ws i)
@@ -99,11 +100,11 @@ module _ (rows names text M : List ℕ) (v : Walk) (b sc : ℕ) (q : Spot) (i : 
     cond-low false x z m h k = k
 
     -- what the walkers of the row need
-    pub row-pre : At rows (rows_in rows) i → GivenNames names text → Holds names text M v (rows_in rows) → FramesBelow v.cap q.ctx → b ≤ 16384
-        → Small ws i → number N (list_of M v) 1 (frame_in p) 0 ≤ 16384 → RowPre rows names text M v p
+    pub row-pre : At rows (rows_in rows) i → GivenNames names text → Holds names text v (rows_in rows) → FramesBelow v.bindings.cap q.ctx → b ≤ 16384
+        → Small ws i → number N (list_of v) 1 (frame_in p) 0 ≤ 16384 → RowPre rows names text v p
     unfolding pass_of
     row-pre g names-given holds low bound small few =
-        let L : ActLow v.cap (act_in p) = row_act_low N w q ws i v.cap (let r = g.row in let h = holds.rows_low in omega arith) low small (act_in p) P.does in
+        let L : ActLow v.bindings.cap (act_in p) = row_act_low N w q ws i v.bindings.cap (let r = g.row in let h = holds.rows_low in omega arith) low small (act_in p) P.does in
         record {
           inner = record {
             range = record {
@@ -115,11 +116,11 @@ module _ (rows names text M : List ℕ) (v : Walk) (b sc : ℕ) (q : Spot) (i : 
             };
             named = names-given;
             holds = holds;
-            bound = subst (λ (x : ℕ). x ≤ 16384) (sym P.says.bind) (cond-low (anew q.slot (kind_at ws i) (number N (list_of M v) 1 (frame_in p) 0)) _ b 16384 few bound);
+            bound = subst (λ (x : ℕ). x ≤ 16384) (sym P.says.bind) (cond-low (anew q.slot (kind_at ws i) (number N (list_of v) 1 (frame_in p) 0)) _ b 16384 few bound);
             first = L.one;
             later = L.more;
           };
-          here = subst (λ (s : Spot). FramesBelow v.cap s.ctx) (sym P.spot) low;
+          here = subst (λ (s : Spot). FramesBelow v.bindings.cap s.ctx) (sym P.spot) low;
           bound = subst (λ (x : ℕ). x ≤ 16384) (sym P.bind) bound;
           low = L.op;
           fit = (subst (λ (x : ℕ). x < 4294967296) (sym P.kind) small.kind, (subst (λ (x : ℕ). x < 4294967296) (sym P.attr) small.attr, subst (λ (x : ℕ). x < 4294967296) (sym P.name) small.name));
@@ -127,7 +128,7 @@ module _ (rows names text M : List ℕ) (v : Walk) (b sc : ℕ) (q : Spot) (i : 
         }
 
 -- the plan, by the values that the code has
-module _ (rows names text M : List ℕ) (v : Walk) (b sc : ℕ) (q : Place) (i sl k a n e m : ℕ) (sup called : Bool) (A : Acted) (s : Passed) where
+module _ (rows names text : List ℕ) (v : Walk) (b sc : ℕ) (q : Place) (i : ℕ) (sl : Slot) (k a n e m : ℕ) (sup called : Bool) (A : Acted) (s : Passed) where
   abbrev it : Plan
   it = record {
     inner = record { from = i + 1; end = e; bind = s.bind; state = s.scan; one = A.one; more = A.more };
@@ -141,15 +142,15 @@ module _ (rows names text M : List ℕ) (v : Walk) (b sc : ℕ) (q : Place) (i s
     next = s.next;
   }
 
-  pub plan_is : At rows (rows_in rows) i → GivenNames names text → Holds names text M v (rows_in rows) → FramesBelow v.cap (place_of q).ctx → b ≤ 16384
-      → sl ≡ (place_of q).slot → k ≡ kind_at (words rows) i → a ≡ attr_at (words rows) i → n ≡ name_at (words rows) i → e ≡ end_at (words rows) i
+  pub plan_is : At rows (rows_in rows) i → GivenNames names text → Holds names text v (rows_in rows) → FramesBelow v.bindings.cap (place_of q).ctx → b ≤ 16384
+      → slot_number sl ≡ (place_of q).slot → k ≡ kind_at (words rows) i → a ≡ attr_at (words rows) i → n ≡ name_at (words rows) i → e ≡ end_at (words rows) i
       → Takes (switches_of v.switches) (place_of q).ctx (act_c (names_of names text) (switches_of v.switches) (place_of q) i (kind_at (words rows) i) (attr_at (words rows) i) (name_at (words rows) i) (children (words rows) i)) A
-      → Small (words rows) i → (place_of A.more).ctx.this_at < v.cap → m ≡ get_or M (4 * v.cap + (place_of A.more).ctx.this_at) 0
-      → sup ≡ first_super (children (words rows) i) → called ≡ super_call (children (words rows) i) → Says s (pass_of b sc sl k m sup called (op_of A.op))
-      → Planned (names_of names text) M (words rows) v b sc (place_of q) i it × RowPre rows names text M v it
+      → Small (words rows) i → (place_of A.more).ctx.this_at < v.bindings.cap → m ≡ this_at v.bindings.made.now v.bindings.cap (place_of A.more).ctx.this_at
+      → sup ≡ first_super (children (words rows) i) → called ≡ super_call (children (words rows) i) → Says s (pass_of b sc (slot_number sl) k m sup called (op_of A.op))
+      → Planned (names_of names text) (words rows) v b sc (place_of q) i it × RowPre rows names text v it
   plan_is g names-given holds low bound hsl hk ha hn he D small fr hm hs hc S =
-      let number_is : m ≡ number (names_of names text) (list_of M v) 1 (place_of A.more).ctx.this_at 0 = hm ∙ this_number (names_of names text) M v.cap v.count holds.store (place_of A.more).ctx.this_at fr in
-      let P : Planned (names_of names text) M (words rows) v b sc (place_of q) i it = record {
+      let number_is : m ≡ number (names_of names text) (list_of v) 1 (place_of A.more).ctx.this_at 0 = hm ∙ this_number (names_of names text) v.bindings.made.now v.bindings.cap v.bindings.count v.bindings.store (place_of A.more).ctx.this_at fr in
+      let P : Planned (names_of names text) (words rows) v b sc (place_of q) i it = record {
         from = refl;
         end = he;
         spot = refl;
@@ -165,6 +166,6 @@ module _ (rows names text M : List ℕ) (v : Walk) (b sc : ℕ) (q : Place) (i s
             (subst (λ (y : Bool). Says s (pass_of b sc (place_of q).slot k m sup y (op_of A.op))) hc (subst (λ (x : ℕ). Says s (pass_of b sc x k m sup called (op_of A.op))) hsl S))));
       } in (
         P,
-        row-pre rows names text M v b sc (place_of q) i it P g names-given holds low bound small
-            (let c = holds.cap_low in let r = holds.store.room in omega (arith, number-low (names_of names text) 1 (place_of A.more).ctx.this_at 0 (list_of M v), binds-length M v.cap 1 v.count)),
+        row-pre rows names text v b sc (place_of q) i it P g names-given holds low bound small
+            (let c = v.bindings.small in let r = v.bindings.store.room in omega (arith, number-low (names_of names text) 1 (place_of A.more).ctx.this_at 0 (list_of v), binds-length v.bindings.made.now v.bindings.cap 1 v.bindings.count)),
       )

@@ -19,7 +19,10 @@ use Rattle.steps.proofs.Credit.{eqb-eq}
 use Rattle.steps.specs.Walk.{build}
 use Rattle.steps.specs.Fused.{met_of, direct_of, own, scan_of, next_of, anew, pass_of, top_s, build_s, emit_s}
 use Rattle.below.specs.Below.{At, children}
-use Rattle.passes.specs.View.{op_of}
+use Rattle.passes.specs.View.{state_number, op_of}
+use Rattle.passes.specs.declared.states.State.{State}
+use Rattle.passes.proofs.Numbers.{slot_of, slot_back}
+use Rattle.plan.proofs.Placing.{place_slot}
 use Rattle.passes.specs.declared.Becomes.TheVariants as becomes
 use Rattle.acts.specs.View.{switches_of}
 use Rattle.plan.specs.Placing.{place_of}
@@ -113,8 +116,8 @@ unchanged_at {w} {q} {sc} {ws} {i} {k} {a} ek ea S D T = record {
   stays = subst (λ (x : ℕ). Stays w q (kind_at ws i) x) ea (subst (λ (x : ℕ). Stays w q x a) ek T);
 }
 
-module _ (rows names text M : List ℕ) (v : Walk) (b sc : ℕ) (q : Place) (i : ℕ) (h : Words) (n : Siblings)
-    (U : Unchanged (switches_of v.switches) (place_of q) sc (words rows) i) (H : WordsOf (words rows) i h) (E : Along (words rows) b sc (place_of q) i n) where
+module _ (rows names text : List ℕ) (v : Walk) (b : ℕ) (st : State) (q : Place) (i : ℕ) (h : Words) (n : Siblings)
+    (U : Unchanged (switches_of v.switches) (place_of q) (state_number st) (words rows) i) (H : WordsOf (words rows) i h) (E : Along (words rows) b (state_number st) (place_of q) i n) where
   abbrev ws : List ℕ
   ws = words rows
 
@@ -125,15 +128,15 @@ module _ (rows names text M : List ℕ) (v : Walk) (b sc : ℕ) (q : Place) (i :
   w = switches_of v.switches
 
   abbrev pub plan : Plan
-  plan = record { inner = n; spot = q; slot = (place_of q).slot; bind = b; words = h; op = becomes.Row h.kind h.attr h.name; met = false; first = false; next = sc }
+  plan = record { inner = n; spot = q; slot = slot_of (place_of q).slot; bind = b; words = h; op = becomes.Row h.kind h.attr h.name; met = false; first = false; next = st }
 
-  pub planned : Planned N M ws v b sc (place_of q) i plan
+  pub planned : Planned N ws v b (state_number st) (place_of q) i plan
   unfolding pass_of own anew op_of enter
   planned = record {
     from = E.from;
     end = E.end;
     spot = refl;
-    slot = refl;
+    slot = slot_back _ (place_slot q);
     bind = refl;
     kind = H.kind;
     attr = H.attr;
@@ -153,22 +156,22 @@ module _ (rows names text M : List ℕ) (v : Walk) (b sc : ℕ) (q : Place) (i :
   }
 
   -- it says that the row is written as it is
-  pub unchanged_rows : dressed rows names text M v plan ≡ node h.kind h.attr h.name (inside rows names text M v n) none
+  pub unchanged_rows : dressed rows names text v plan ≡ node h.kind h.attr h.name (inside rows names text v n) none
   unfolding dress build_s build top_s op_of
-  unchanged_rows = rw (U.stays.bare, H.kind, U.stays.unclosed) refl
+  unchanged_rows = rw (slot_back _ (place_slot q), U.stays.bare, H.kind, U.stays.unclosed) refl
 
   -- what the walk of its children needs
-  pub unchanged_inner : At rows (rows_in rows) i → GivenNames names text → Holds names text M v (rows_in rows) → b ≤ 16384 → FramesBelow v.cap (place_of q).ctx → InnerPre rows names text M v n
+  pub unchanged_inner : At rows (rows_in rows) i → GivenNames names text → Holds names text v (rows_in rows) → b ≤ 16384 → FramesBelow v.bindings.cap (place_of q).ctx → InnerPre rows names text v n
   unchanged_inner g names-given holds bound low = record {
     range = record { bytes = g.bytes; few = g.few; nested = g.nested; range = subst (λ (x : ℕ). Range ws (rows_in rows) x n.end) (sym E.from) (subst (Range ws (rows_in rows) (i + 1)) (sym E.end) (inner ws (rows_in rows) g.nested i g.row)) };
     named = names-given;
     holds = holds;
     bound = subst (λ (x : ℕ). x ≤ 16384) (sym E.bind) bound;
-    first = subst (λ (s : Spot). FramesBelow v.cap s.ctx) (sym E.one) low;
-    later = subst (λ (s : Spot). FramesBelow v.cap s.ctx) (sym E.more) low;
+    first = subst (λ (s : Spot). FramesBelow v.bindings.cap s.ctx) (sym E.one) low;
+    later = subst (λ (s : Spot). FramesBelow v.bindings.cap s.ctx) (sym E.more) low;
   }
 
 -- a row without children
-pub no_children : (rows names text M : List ℕ) (v : Walk) (n : Siblings) → n.end ≤ n.from → inside rows names text M v n ≡ none
+pub no_children : (rows names text : List ℕ) (v : Walk) (n : Siblings) → n.end ≤ n.from → inside rows names text v n ≡ none
 unfolding emit_s
-no_children rows names text M v n h = rw (rows_none (words rows) n.from n.end h) refl
+no_children rows names text v n h = rw (rows_none (words rows) n.from n.end h) refl

@@ -7,7 +7,6 @@ use Prim.Native.Nat.{ℕ, ◌+◌, ◌<◌, ◌≤◌}
 use native.Mathlib.Omega.{arith}
 use lib.Dec.{eqb}
 use borrow.Author.Tests.{eqb-true, eqb-false}
-use lib.ListN.{get_or}
 use Rattle.grammar.specs.Kinds.{Program, ExprStmt, This, Ident, Member, Call, Sequence}
 use Rattle.forest.specs.Forest.{Rows, Rows.none, Rows.node, size}
 use Rattle.steps.specs.Naming.{Names}
@@ -21,12 +20,12 @@ use Rattle.steps.specs.Bindings.{number, closes}
 use Rattle.steps.specs.TopInsertion.{var_first}
 use Rattle.steps.specs.Walk.{build}
 use Rattle.steps.specs.Fused.{top_s, build_s, declared}
-use Rattle.bindings.specs.Store.{Store, capture_table}
+use Rattle.bindings.specs.Store.{Store, capture_at}
 use Rattle.bindings.proofs.Captures.{table_is}
 use Rattle.bindings.proofs.Numbered.{number_capture, this_number}
 use Rattle.insertion.specs.Declarations.{frame_decls}
 use Rattle.insertion.proofs.Tops.{frame-decls}
-use Rattle.passes.specs.View.{op_of}
+use Rattle.passes.specs.View.{slot_number, op_of}
 use Rattle.output.specs.Output.{Done}
 use Rattle.output.proofs.Writing.{size-one, size-leaf, size-join}
 use Rattle.inserted.proofs.Shapes.{size-assignment}
@@ -75,152 +74,152 @@ unfolding join
 nothing-first t = refl
 
 -- what stands inside of a row of kind k in that slot
-module _ (rows names text M : List ℕ) (v : Walk) (sl k : ℕ) (n : Siblings) where
+module _ (rows names text : List ℕ) (v : Walk) (sl k : ℕ) (n : Siblings) where
   abbrev N : Names
   N = names_of names text
 
   abbrev inn : Rows
-  inn = inside rows names text M v n
+  inn = inside rows names text v n
 
   -- a row that closes no frame
-  open_topped : closes sl k ≡ false → topped rows names text M v sl k n ≡ inn
+  open_topped : closes sl k ≡ false → topped rows names text v sl k n ≡ inn
   unfolding top_s
   open_topped h = rw h refl
 
-  pub kept_inside : is_function k ≡ false → topped rows names text M v sl k n ≡ inn
+  pub kept_inside : is_function k ≡ false → topped rows names text v sl k n ≡ inn
   kept_inside h = open_topped (function_open k sl h)
 
   -- the Var goes first
-  pub top-join : Store M v.cap v.count → (place_of n.more).ctx.this_at < v.cap → topped rows names text M v sl k n ≡ join (top_rows M v sl k (place_of n.more).ctx.this_at) inn
+  pub top-join : Store v.bindings.made.now v.bindings.cap v.bindings.count → (place_of n.more).ctx.this_at < v.bindings.cap → topped rows names text v sl k n ≡ join (top_rows v sl k (place_of n.more).ctx.this_at) inn
   unfolding top_s
   top-join S h = go (closes sl k)
     where
-      go : (y : Bool) → cond y (var_first (declared N (list_of M v) (place_of n.more).ctx.this_at (eqb k Program) (eqb sl late_body)) inn) inn
-          ≡ join (cond y (var_first (frame_decls M v.cap v.count (place_of n.more).ctx.this_at (eqb k Program) (eqb sl late_body)) none) none) inn
-      go true = ap (λ (d : Rows). var_first d inn) (frame-decls N M v.cap v.count (place_of n.more).ctx.this_at (eqb k Program) (eqb sl late_body) S h) ∙ first-join _ inn
+      go : (y : Bool) → cond y (var_first (declared N (list_of v) (place_of n.more).ctx.this_at (eqb k Program) (eqb sl late_body)) inn) inn
+          ≡ join (cond y (var_first (frame_decls v.bindings.made.now v.bindings.cap v.bindings.count (place_of n.more).ctx.this_at (eqb k Program) (eqb sl late_body)) none) none) inn
+      go true = ap (λ (d : Rows). var_first d inn) (frame-decls N v.bindings.made.now v.bindings.cap v.bindings.count (place_of n.more).ctx.this_at (eqb k Program) (eqb sl late_body) S h) ∙ first-join _ inn
       go false = sym (nothing-first inn)
 
-  pub top-size : Store M v.cap v.count → (place_of n.more).ctx.this_at < v.cap → size (topped rows names text M v sl k n) ≡ size (top_rows M v sl k (place_of n.more).ctx.this_at) + size inn
+  pub top-size : Store v.bindings.made.now v.bindings.cap v.bindings.count → (place_of n.more).ctx.this_at < v.bindings.cap → size (topped rows names text v sl k n) ≡ size (top_rows v sl k (place_of n.more).ctx.this_at) + size inn
   top-size S h = ap size (top-join S h) ∙ size-join _ inn
 
-module _ (rows names text M : List ℕ) (v : Walk) (p : Plan) where
+module _ (rows names text : List ℕ) (v : Walk) (p : Plan) where
   abbrev NN : Names
   NN = names_of names text
 
   abbrev I : Rows
-  I = inside rows names text M v p.inner
+  I = inside rows names text v p.inner
 
   abbrev T : Rows
-  T = topped rows names text M v p.slot p.words.kind p.inner
+  T = topped rows names text v (slot_number p.slot) p.words.kind p.inner
 
-  closed-not : closes p.slot p.words.kind ≡ false → T ≡ I
-  closed-not h = open_topped rows names text M v p.slot p.words.kind p.inner h
+  closed-not : closes (slot_number p.slot) p.words.kind ≡ false → T ≡ I
+  closed-not h = open_topped rows names text v (slot_number p.slot) p.words.kind p.inner h
 
   module _ (F : Formed p) where
     abbrev row_of : Rows → Rows → Rows
     row_of i s = node p.words.kind p.words.attr p.words.name i s
 
     -- a statement
-    pub statement-rows : is_statement p.words.kind ≡ true → eqb p.slot wrapped ≡ false
-        → dressed rows names text M v p ≡ row_of I (cond p.first (node ExprStmt 0 0 (assignment p.bind) none) none)
+    pub statement-rows : is_statement p.words.kind ≡ true → eqb (slot_number p.slot) wrapped ≡ false
+        → dressed rows names text v p ≡ row_of I (cond p.first (node ExprStmt 0 0 (assignment p.bind) none) none)
     unfolding dress build_s build
     statement-rows h w =
         let f = F.statement h in
         rw (w, f.1.0, f.0) (ap (λ (t : Rows). row_of t (cond p.first (node ExprStmt 0 0 (assignment p.bind) none) none)) (closed-not f.1.1))
 
     -- a called Super
-    pub sequence-rows : p.met ≡ true → p.first ≡ false → built rows names text M v p none ≡ node Sequence 0 0 (row_of I (assignment p.bind)) none
+    pub sequence-rows : p.met ≡ true → p.first ≡ false → built rows names text v p none ≡ node Sequence 0 0 (row_of I (assignment p.bind)) none
     unfolding build_s build
     sequence-rows h g =
         let f = F.met h in
         rw (h, f.0) (ap (λ (t : Rows). node Sequence 0 0 (row_of t (assignment p.bind)) none) (closed-not f.1))
 
     module _ (m : p.met ≡ false) (g : p.first ≡ false) where
-      pub row-rows : (k a n : ℕ) → op_of p.op ≡ row k a n → built rows names text M v p none ≡ node k a n T none
+      pub row-rows : (k a n : ℕ) → op_of p.op ≡ row k a n → built rows names text v p none ≡ node k a n T none
       unfolding build_s build
       row-rows k a n h = rw (m, g, h) refl
 
       rowless-topped : (x : Op) → op_of p.op ≡ x → is_row x ≡ false → T ≡ I
       rowless-topped x h e = closed-not (F.rowless (ap is_row h ∙ e))
 
-      pub drop-rows : op_of p.op ≡ drop → built rows names text M v p none ≡ I
+      pub drop-rows : op_of p.op ≡ drop → built rows names text v p none ≡ I
       unfolding build_s build is_row
       drop-rows h = rw (m, g, h) (join-none T ∙ rowless-topped drop h refl)
 
-      pub name-rows : (u f : ℕ) → op_of p.op ≡ name u f → built rows names text M v p none ≡ node Ident 1 (number NN (list_of M v) u f 0) none none
+      pub name-rows : (u f : ℕ) → op_of p.op ≡ name u f → built rows names text v p none ≡ node Ident 1 (number NN (list_of v) u f 0) none none
       unfolding build_s build
       name-rows u f h = rw (m, g, h) refl
 
-      pub call_rows : (u f x : ℕ) → op_of p.op ≡ call u f x false → built rows names text M v p none ≡ node Call 0 0 (node Ident 1 (number NN (list_of M v) u f x) none I) none
+      pub call_rows : (u f x : ℕ) → op_of p.op ≡ call u f x false → built rows names text v p none ≡ node Call 0 0 (node Ident 1 (number NN (list_of v) u f x) none I) none
       unfolding build_s build is_row
-      call_rows u f x h = rw (m, g, h) (ap (λ (t : Rows). node Call 0 0 (node Ident 1 (number NN (list_of M v) u f x) none t) none) (rowless-topped (call u f x false) h refl))
+      call_rows u f x h = rw (m, g, h) (ap (λ (t : Rows). node Call 0 0 (node Ident 1 (number NN (list_of v) u f x) none t) none) (rowless-topped (call u f x false) h refl))
 
       -- a captured `this` or `arguments`
-      pub captured-rows : (u f : ℕ) → op_of p.op ≡ name u f → Store M v.cap v.count → 0 < u → u ≤ 2 → f < v.cap
-          → built rows names text M v p none ≡ node Ident 1 (get_or M (capture_table v.cap u f) 0) none none
+      pub captured-rows : (u f : ℕ) → op_of p.op ≡ name u f → Store v.bindings.made.now v.bindings.cap v.bindings.count → 0 < u → u ≤ 2 → f < v.bindings.cap
+          → built rows names text v p none ≡ node Ident 1 (capture_at v.bindings.made.now v.bindings.cap u f) none none
       captured-rows u f h S some few low =
           name-rows u f h
-          ∙ ap (λ (b : ℕ). node Ident 1 b none none) (number_capture NN u f few (list_of M v) S.bare ∙ sym (table_is M v.cap v.count u f S low (one_or_two u some few)))
+          ∙ ap (λ (b : ℕ). node Ident 1 b none none) (number_capture NN u f few (list_of v) S.bare ∙ sym (table_is v.bindings.made.now v.bindings.cap v.bindings.count u f S low (one_or_two u some few)))
 
       -- `get().call(this, ..)`
-      pub called-rows : (u f x : ℕ) → op_of p.op ≡ call u f x true → Store M v.cap v.count → (place_of p.spot).ctx.this_at < v.cap
-          → built rows names text M v p none ≡ node Member 1 0 (node Call 0 0 (node Ident 1 (number NN (list_of M v) u f x) none I) none) (this_row M v.cap (place_of p.spot).ctx.takes_this (place_of p.spot).ctx.this_at)
+      pub called-rows : (u f x : ℕ) → op_of p.op ≡ call u f x true → Store v.bindings.made.now v.bindings.cap v.bindings.count → (place_of p.spot).ctx.this_at < v.bindings.cap
+          → built rows names text v p none ≡ node Member 1 0 (node Call 0 0 (node Ident 1 (number NN (list_of v) u f x) none I) none) (this_row v.bindings.made.now v.bindings.cap (place_of p.spot).ctx.takes_this (place_of p.spot).ctx.this_at)
       unfolding build_s build is_row this_row
       called-rows u f x h S low =
           rw (m, g, h)
-          (ap (λ (t : Rows). node Member 1 0 (node Call 0 0 (node Ident 1 (number NN (list_of M v) u f x) none t) none) (cond (place_of p.spot).ctx.takes_this (node Ident 1 (number NN (list_of M v) 1
+          (ap (λ (t : Rows). node Member 1 0 (node Call 0 0 (node Ident 1 (number NN (list_of v) u f x) none t) none) (cond (place_of p.spot).ctx.takes_this (node Ident 1 (number NN (list_of v) 1
           (place_of p.spot).ctx.this_at 0) none none) (node This 0 0 none none))) (rowless-topped (call u f x true) h refl)
-          ∙ ap (λ (b : ℕ). node Member 1 0 (node Call 0 0 (node Ident 1 (number NN (list_of M v) u f x) none I) none) (cond (place_of p.spot).ctx.takes_this (node Ident 1 b none none) (node This 0 0 none none))) (sym
-          (this_number NN M v.cap v.count S (place_of p.spot).ctx.this_at low)))
+          ∙ ap (λ (b : ℕ). node Member 1 0 (node Call 0 0 (node Ident 1 (number NN (list_of v) u f x) none I) none) (cond (place_of p.spot).ctx.takes_this (node Ident 1 b none none) (node This 0 0 none none))) (sym
+          (this_number NN v.bindings.made.now v.bindings.cap v.bindings.count S (place_of p.spot).ctx.this_at low)))
 
-      pub row-size : (k a n : ℕ) → op_of p.op ≡ row k a n → size (built rows names text M v p none) ≡ 1 + size T
+      pub row-size : (k a n : ℕ) → op_of p.op ≡ row k a n → size (built rows names text v p none) ≡ 1 + size T
       row-size k a n h = ap size (row-rows k a n h) ∙ size-one k a n T
 
-      pub drop-size : op_of p.op ≡ drop → size (built rows names text M v p none) ≡ size I
+      pub drop-size : op_of p.op ≡ drop → size (built rows names text v p none) ≡ size I
       drop-size h = ap size (drop-rows h)
 
-      pub name-size : (u f : ℕ) → op_of p.op ≡ name u f → size (built rows names text M v p none) ≡ 1
+      pub name-size : (u f : ℕ) → op_of p.op ≡ name u f → size (built rows names text v p none) ≡ 1
       unfolding size
       name-size u f h = ap size (name-rows u f h)
 
-      pub call-size : (u f x : ℕ) → op_of p.op ≡ call u f x false → size (built rows names text M v p none) ≡ 2 + size I
+      pub call-size : (u f x : ℕ) → op_of p.op ≡ call u f x false → size (built rows names text v p none) ≡ 2 + size I
       unfolding size
       call-size u f x h = let z = ap size (call_rows u f x h) in omega arith
 
-      pub called-size : (u f x : ℕ) → op_of p.op ≡ call u f x true → Store M v.cap v.count → (place_of p.spot).ctx.this_at < v.cap → size (built rows names text M v p none) ≡ 4 + size I
+      pub called-size : (u f x : ℕ) → op_of p.op ≡ call u f x true → Store v.bindings.made.now v.bindings.cap v.bindings.count → (place_of p.spot).ctx.this_at < v.bindings.cap → size (built rows names text v p none) ≡ 4 + size I
       unfolding size
       called-size u f x h S low =
           let z = ap size (called-rows u f x h S low) in
-          omega (arith, this_size M v.cap (place_of p.spot).ctx.takes_this (place_of p.spot).ctx.this_at)
+          omega (arith, this_size v.bindings.made.now v.bindings.cap (place_of p.spot).ctx.takes_this (place_of p.spot).ctx.this_at)
 
-    pub sequence-size : p.met ≡ true → p.first ≡ false → size (built rows names text M v p none) ≡ 6 + size I
+    pub sequence-size : p.met ≡ true → p.first ≡ false → size (built rows names text v p none) ≡ 6 + size I
     unfolding size
     sequence-size h g = let z = ap size (sequence-rows h g) in omega (arith, size-assignment p.bind)
 
-    module _ (h : is_statement p.words.kind ≡ true) (w : eqb p.slot wrapped ≡ false) where
-      pub statement-plain : p.first ≡ false → dressed rows names text M v p ≡ row_of I none
+    module _ (h : is_statement p.words.kind ≡ true) (w : eqb (slot_number p.slot) wrapped ≡ false) where
+      pub statement-plain : p.first ≡ false → dressed rows names text v p ≡ row_of I none
       statement-plain g = statement-rows h w ∙ ap (λ (y : Bool). row_of I (cond y (node ExprStmt 0 0 (assignment p.bind) none) none)) g
 
-      pub statement-assigned : p.first ≡ true → dressed rows names text M v p ≡ row_of I (node ExprStmt 0 0 (assignment p.bind) none)
+      pub statement-assigned : p.first ≡ true → dressed rows names text v p ≡ row_of I (node ExprStmt 0 0 (assignment p.bind) none)
       statement-assigned g = statement-rows h w ∙ ap (λ (y : Bool). row_of I (cond y (node ExprStmt 0 0 (assignment p.bind) none) none)) g
 
-      pub statement-least : 1 + size I ≤ size (dressed rows names text M v p)
+      pub statement-least : 1 + size I ≤ size (dressed rows names text v p)
       unfolding size
       statement-least = let z = ap size (statement-rows h w) in omega arith
 
-      pub assigned-size : p.first ≡ true → size (dressed rows names text M v p) ≡ 6 + size I
+      pub assigned-size : p.first ≡ true → size (dressed rows names text v p) ≡ 6 + size I
       unfolding size
       assigned-size g = let z = ap size (statement-assigned g) in omega (arith, size-assignment p.bind)
 
     -- which walker a row of a list goes to
-    pub expression-first : (r : Bool) → r ≡ is_statement p.words.kind → (r && not (eqb p.slot wrapped)) ≡ false → p.first ≡ false
-    expression-first true e h = F.dressing (unnot (eqb p.slot wrapped) h)
-    expression-first false e h = F.other (sym e)
+    pub expression-first : {b : Bool} → b ≡ eqb (slot_number p.slot) wrapped → (r : Bool) → r ≡ is_statement p.words.kind → (r && not b) ≡ false → p.first ≡ false
+    expression-first {b} t true e h = F.dressing (sym t ∙ unnot b h)
+    expression-first t false e h = F.other (sym e)
 
 -- a statement that is no wrapped body
-pub statement_test : (k s : ℕ) (r : Bool) → r ≡ is_statement k → (r && not (eqb s wrapped)) ≡ true → (is_statement k ≡ true) × (eqb s wrapped ≡ false)
-statement_test k s true e h = (sym e, flipped (eqb s wrapped) h)
-statement_test k s false e h = absurd (true≢false (sym h))
+pub statement_test : (k s : ℕ) {b : Bool} → b ≡ eqb s wrapped → (r : Bool) → r ≡ is_statement k → (r && not b) ≡ true → (is_statement k ≡ true) × (eqb s wrapped ≡ false)
+statement_test k s {b} t true e h = (sym e, sym t ∙ flipped b h)
+statement_test k s t false e h = absurd (true≢false (sym h))
 
 -- the row after one with nothing inside
 pub leaf-next : {o o' : List ℕ} {at k a n r : ℕ} → Done o at (node k a n none none) r o' → r ≡ at + 1

@@ -13,9 +13,9 @@ use Rattle.steps.specs.Acts.{Op.row}
 use Rattle.steps.specs.Bindings.{Binding, number, closes}
 use Rattle.steps.specs.Context.{Spot, spot, start, act_c}
 use Rattle.steps.specs.Fused.{pass_of, top_s, build_s, emit_s}
-use Rattle.bindings.specs.Store.{Store, binds}
+use Rattle.bindings.specs.Store.{binds}
 use Rattle.bindings.specs.Filed.{Filed, behind}
-use Rattle.passes.specs.View.{op_of, Says}
+use Rattle.passes.specs.View.{slot_number, state_number, op_of, Says}
 use Rattle.below.specs.Below.{children}
 use Rattle.passes.specs.declared.Pass.{Pass}
 use Rattle.acts.specs.View.{switches_of}
@@ -29,73 +29,71 @@ use Rattle.emit_plan.specs.declared.Siblings.{Siblings}
 use Rattle.emit_plan.specs.declared.Plan.{Plan}
 use Rattle.emit_plan.specs.Walkers.{is_statement, is_row}
 
--- the bindings of the array
-abbrev pub list_of : List ℕ → Walk → List Binding
-list_of M v = binds M v.cap v.count
+-- the bindings of the walk
+abbrev pub list_of : Walk → List Binding
+list_of v = binds v.bindings.made.now v.bindings.cap v.bindings.count
 
-module _ (rows names text M : List ℕ) (v : Walk) where
+module _ (rows names text : List ℕ) (v : Walk) where
   -- what some rows become: the first at q, the later ones at q', in state sc where binding b is assigned
   abbrev pub listed : (b sc : ℕ) (q q' : Spot) (i e : ℕ) → Rows
-  listed b sc q q' i e = emit_s (names_of names text) (switches_of v.switches) (list_of M v) b sc q q' i (rows_at (words rows) i e)
+  listed b sc q q' i e = emit_s (names_of names text) (switches_of v.switches) (list_of v) b sc q q' i (rows_at (words rows) i e)
 
   -- what the whole table becomes
   abbrev pub emitted : Rows
-  emitted = emit_s (names_of names text) (switches_of v.switches) (list_of M v) 0 copy (spot start free) (spot start free) 0 (table rows)
+  emitted = emit_s (names_of names text) (switches_of v.switches) (list_of v) 0 copy (spot start free) (spot start free) 0 (table rows)
 
   -- what a row's children become
   abbrev pub inside : Siblings → Rows
-  inside n = listed n.bind n.state (place_of n.one) (place_of n.more) n.from n.end
+  inside n = listed n.bind (state_number n.state) (place_of n.one) (place_of n.more) n.from n.end
 
   -- .. with the Var that goes first where a row of kind k in that slot closes a frame
   abbrev pub topped : (sl k : ℕ) → Siblings → Rows
-  topped sl k n = top_s (names_of names text) (list_of M v) sl k (place_of n.more).ctx.this_at (inside n)
+  topped sl k n = top_s (names_of names text) (list_of v) sl k (place_of n.more).ctx.this_at (inside n)
 
   -- what the row becomes, before the rows s
   abbrev pub built : Plan → Rows → Rows
-  built p = build_s (names_of names text) (list_of M v) (place_of p.spot).ctx p.bind p.met p.first (op_of p.op) (topped p.slot p.words.kind p.inner)
+  built p = build_s (names_of names text) (list_of v) (place_of p.spot).ctx p.bind p.met p.first (op_of p.op) (topped (slot_number p.slot) p.words.kind p.inner)
 
   -- and in the Body and Return of an expression body
   abbrev pub dressed : Plan → Rows
-  dressed p = dress p.slot (built p) none
+  dressed p = dress (slot_number p.slot) (built p) none
 
--- the array holds the bindings of a table of n rows
-pub record Holds (names text M : List ℕ) (v : Walk) (n : ℕ) : Type 0 where
-  pub store : Store M v.cap v.count
-  pub filed : Filed names text (behind v.cap M) v.cap (list_of M v)
-  pub cap_low : v.cap ≤ 16384
-  pub rows_low : n ≤ v.cap
+-- the walk has the bindings of a table of n rows, its accessors by buckets
+pub record Holds (names text : List ℕ) (v : Walk) (n : ℕ) : Type 0 where
+  pub filed : Filed names text (behind v.bindings.cap v.bindings.made.now) v.bindings.cap (list_of v)
+  pub rows_low : n ≤ v.bindings.cap
 
 -- what a walker of a list needs
-pub record ListPre (rows names text M : List ℕ) (v : Walk) (b : ℕ) (q q' : Spot) (i e : ℕ) : Type 0 where
+pub record ListPre (rows names text : List ℕ) (v : Walk) (b : ℕ) (q q' : Spot) (i e : ℕ) : Type 0 where
   pub range : Ranged rows i e
   pub named : GivenNames names text
-  pub holds : Holds names text M v (rows_in rows)
+  pub holds : Holds names text v (rows_in rows)
   pub bound : b ≤ 16384
-  pub first : FramesBelow v.cap q.ctx
-  pub later : FramesBelow v.cap q'.ctx
+  pub first : FramesBelow v.bindings.cap q.ctx
+  pub later : FramesBelow v.bindings.cap q'.ctx
 
 -- .. for the children of a row
-abbrev pub InnerPre : (rows names text M : List ℕ) → Walk → Siblings → Type 0
-InnerPre rows names text M v n = ListPre rows names text M v n.bind (place_of n.one) (place_of n.more) n.from n.end
+abbrev pub InnerPre : (rows names text : List ℕ) → Walk → Siblings → Type 0
+InnerPre rows names text v n = ListPre rows names text v n.bind (place_of n.one) (place_of n.more) n.from n.end
 
 -- what a kind says of its plan: the cases that need not be written
 pub record Formed (p : Plan) : Type 0 where
-  pub statement : is_statement p.words.kind ≡ true → (op_of p.op ≡ row p.words.kind p.words.attr p.words.name) × ((p.met ≡ false) × (closes p.slot p.words.kind ≡ false))
+  pub statement : is_statement p.words.kind ≡ true → (op_of p.op ≡ row p.words.kind p.words.attr p.words.name) × ((p.met ≡ false) × (closes (slot_number p.slot) p.words.kind ≡ false))
   pub other : is_statement p.words.kind ≡ false → p.first ≡ false
-  pub dressing : eqb p.slot wrapped ≡ true → p.first ≡ false
-  pub met : p.met ≡ true → (op_of p.op ≡ row p.words.kind p.words.attr p.words.name) × (closes p.slot p.words.kind ≡ false)
-  pub rowless : is_row (op_of p.op) ≡ false → closes p.slot p.words.kind ≡ false
+  pub dressing : eqb (slot_number p.slot) wrapped ≡ true → p.first ≡ false
+  pub met : p.met ≡ true → (op_of p.op ≡ row p.words.kind p.words.attr p.words.name) × (closes (slot_number p.slot) p.words.kind ≡ false)
+  pub rowless : is_row (op_of p.op) ≡ false → closes (slot_number p.slot) p.words.kind ≡ false
 
 -- three words that fit 32 bits
 abbrev pub Fit : (k a n : ℕ) → Type 0
 Fit k a n = (k < 4294967296) × ((a < 4294967296) × (n < 4294967296))
 
 -- what the walkers of a row need
-pub record RowPre (rows names text M : List ℕ) (v : Walk) (p : Plan) : Type 0 where
-  pub inner : InnerPre rows names text M v p.inner
-  pub here : FramesBelow v.cap (place_of p.spot).ctx
+pub record RowPre (rows names text : List ℕ) (v : Walk) (p : Plan) : Type 0 where
+  pub inner : InnerPre rows names text v p.inner
+  pub here : FramesBelow v.bindings.cap (place_of p.spot).ctx
   pub bound : p.bind ≤ 16384
-  pub low : OpLow v.cap (op_of p.op)
+  pub low : OpLow v.bindings.cap (op_of p.op)
   pub fit : Fit p.words.kind p.words.attr p.words.name
   pub formed : Formed p
 
@@ -111,14 +109,14 @@ abbrev pub frame_in : Plan → ℕ
 frame_in p = (place_of p.inner.more).ctx.this_at
 
 -- the plan p of row i, at q in state sc where binding b is assigned, is that of the steps
-pub record Planned (N : Names) (M ws : List ℕ) (v : Walk) (b sc : ℕ) (q : Spot) (i : ℕ) (p : Plan) : Type 0 where
+pub record Planned (N : Names) (ws : List ℕ) (v : Walk) (b sc : ℕ) (q : Spot) (i : ℕ) (p : Plan) : Type 0 where
   pub from : p.inner.from ≡ i + 1
   pub end : p.inner.end ≡ end_at ws i
   pub spot : place_of p.spot ≡ q
-  pub slot : p.slot ≡ q.slot
+  pub slot : slot_number p.slot ≡ q.slot
   pub bind : p.bind ≡ b
   pub kind : p.words.kind ≡ kind_at ws i
   pub attr : p.words.attr ≡ attr_at ws i
   pub name : p.words.name ≡ name_at ws i
   pub does : Takes (switches_of v.switches) q.ctx (act_c N (switches_of v.switches) q i (kind_at ws i) (attr_at ws i) (name_at ws i) (children ws i)) (act_in p)
-  pub says : Says (pass_in p) (pass_of b sc q.slot (kind_at ws i) (number N (list_of M v) 1 (frame_in p) 0) (first_super (children ws i)) (super_call (children ws i)) (op_of p.op))
+  pub says : Says (pass_in p) (pass_of b sc q.slot (kind_at ws i) (number N (list_of v) 1 (frame_in p) 0) (first_super (children ws i)) (super_call (children ws i)) (op_of p.op))

@@ -1,5 +1,5 @@
--- The Var of a frame, from the bindings' array. Assumes nothing.
-use Rattle.std.specs.Prelude.{ℕ, cond, List, eqb}
+-- The Var of a frame, from the bindings of the walk. Assumes nothing.
+use Rattle.std.specs.Prelude.{ℕ, cond, eqb}
 use Rattle.grammar.specs.Kinds.{Program}
 use Rattle.forest.specs.Forest.{Rows, Rows.none}
 use Rattle.steps.specs.Slots.{late_body}
@@ -9,5 +9,5 @@ use Rattle.insertion.specs.Declarations.{frame_decls}
 use Rattle.emit_plan.specs.declared.Walk.{Walk}
 
 -- what goes first inside a row of kind k in that slot, where r is the frame
-abbrev pub top_rows : List ℕ → Walk → (sl k r : ℕ) → Rows
-top_rows M v sl k r = cond (closes sl k) (var_first (frame_decls M v.cap v.count r (eqb k Program) (eqb sl late_body)) none) none
+abbrev pub top_rows : Walk → (sl k r : ℕ) → Rows
+top_rows v sl k r = cond (closes sl k) (var_first (frame_decls v.bindings.made.now v.bindings.cap v.bindings.count r (eqb k Program) (eqb sl late_body)) none) none

@@ -8,6 +8,7 @@ use Rattle.steps.specs.Acts.{Op.row}
 use Rattle.steps.specs.Context.{Spot, spot}
 use Rattle.steps.specs.Fused.{met_of, direct_of, scan_of, next_of}
 use Rattle.acts.specs.declared.act.Words.{Words}
+use Rattle.passes.specs.View.{state_number}
 use Rattle.below.specs.Below.{children}
 use Rattle.plan.specs.Placing.{place_of}
 use Rattle.plan.specs.Staying.{Stays}
@@ -42,6 +43,6 @@ pub record Along (ws : List ℕ) (b sc : ℕ) (q : Spot) (i : ℕ) (n : Siblings
   pub from : n.from ≡ i + 1
   pub end : n.end ≡ end_at ws i
   pub bind : n.bind ≡ b
-  pub state : n.state ≡ inside_state sc
+  pub state : state_number n.state ≡ inside_state sc
   pub one : place_of n.one ≡ spot q.ctx free
   pub more : place_of n.more ≡ spot q.ctx free

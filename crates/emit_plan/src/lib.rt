@@ -10,15 +10,17 @@ pub mod top;
 
 use acts::act::Words;
 use acts::switches::Switches;
+use bindings::view::Bindings;
 use passes::Becomes;
+use passes::slots::Slot;
+use passes::states::State;
 use plan::place::Place;
 
-// What stays the same on the whole walk: the switches, and the size and count of the bindings' array.
+// What stays the same on the whole walk: the switches, and the bindings.
 #[derive(Clone, Copy)]
-pub struct Walk {
+pub struct Walk<'a> {
     pub switches: Switches,
-    pub cap: usize,
-    pub count: usize,
+    pub bindings: Bindings<'a>,
 }
 
 // A list of siblings, from row `from` to row `end`, and how it is walked: the binding that module 7
@@ -28,7 +30,7 @@ pub struct Siblings {
     pub from: usize,
     pub end: usize,
     pub bind: usize,
-    pub state: usize,
+    pub state: State,
     pub one: Place,
     pub more: Place,
 }
@@ -40,11 +42,11 @@ pub struct Siblings {
 pub struct Plan {
     pub inner: Siblings,
     pub spot: Place,
-    pub slot: usize,
+    pub slot: Slot,
     pub bind: usize,
     pub words: Words,
     pub op: Becomes,
     pub met: bool,
     pub first: bool,
-    pub next: usize,
+    pub next: State,
 }

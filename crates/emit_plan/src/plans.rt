@@ -5,6 +5,7 @@ ghost use Rattle.spelling.specs.Spelling.{GivenNames};
 ghost use Rattle.steps.specs.Outcome.{names_of};
 ghost use Rattle.steps.specs.AfterSuper.{super_call};
 ghost use Rattle.steps.specs.Fused.{direct_of};
+ghost use Rattle.passes.specs.View.{state_number};
 ghost use Rattle.below.specs.Below.{At, children};
 ghost use Rattle.acts.specs.View.{switches_of};
 ghost use Rattle.plan.specs.Placing.{place_of};
@@ -17,13 +18,12 @@ use crate::{Plan, Siblings, Walk};
 use acts::act::Words;
 use acts::switches::Switches;
 use below::{attr_at, end_at, kind_at, look, name_at, super_call};
-use bindings::entry;
 use grammar::kinds::{
     ARROW, BLOCK, BODY, CALL, CLASS, DECLARATOR, EXPR_STMT, FIELD, FUNCTION, METHOD, OTHER, PARAMS,
     PROGRAM, RETURN, STATIC_BLOCK, VAR,
 };
 use passes::pass_of;
-use passes::states::{COPY, LIST, VISIT};
+use passes::states::State;
 use plan::act_at;
 use plan::late::is_late;
 use plan::place::Place;
@@ -65,19 +65,18 @@ pub fn plan_at(
     rows: &[u8],
     names: &[u8],
     text: &[u8],
-    made: &[u32],
-    walk: Walk,
+    walk: Walk<'_>,
     bind: usize,
-    state: usize,
+    state: State,
     q: Place,
     i: usize,
 ) -> Plan
     requires at { At rows.now (rows_in rows.now) i }
     requires given_names { GivenNames names.now text.now }
-    requires holds { Holds names.now text.now made.now walk (rows_in rows.now) }
-    requires frames_below { FramesBelow walk.cap (place_of q).ctx × (bind ≤ 16384) }
-    ensures planned { Planned (names_of names.now text.now) made.now (words rows.now) walk bind state (place_of q) i result }
-    ensures row_pre { RowPre rows.now names.now text.now made.now walk result }
+    requires holds { Holds names.now text.now walk (rows_in rows.now) }
+    requires frames_below { FramesBelow walk.bindings.cap (place_of q).ctx × (bind ≤ 16384) }
+    ensures planned { Planned (names_of names.now text.now) (words rows.now) walk.entry bind (state_number state) (place_of q) i result }
+    ensures row_pre { RowPre rows.now names.now text.now walk.entry result }
 {
     let late = is_late(rows, names, text, walk.switches, q, i);
     let act = act_at(rows, names, text, walk.switches, q, i, late);
@@ -88,7 +87,7 @@ pub fn plan_at(
     let one = act.one;
     let more = act.more;
     let frame = more.this_at();
-    let m = entry(made, 4 * walk.cap + frame);
+    let m = walk.bindings.this_of(frame) as usize;
     let slot = q.slot();
     let pass = pass_of(
         bind,
@@ -122,10 +121,10 @@ pub fn plan_at(
 
 // Whether module 7 leaves a row of that kind alone in a list of that state, but for a direct `super(..)`: the rows after
 // it are in the same state, and its children in that of `inside_state`.
-fn is_steady(state: usize, kind: usize) -> bool
-    ensures { result ≡ true → Steady state kind }
+fn is_steady(state: State, kind: usize) -> bool
+    ensures { result ≡ true → Steady (state_number state) kind }
 {
-    if state == COPY {
+    if state == State::Copy {
         return true;
     }
     let turns = (kind == STATIC_BLOCK)
@@ -134,34 +133,34 @@ fn is_steady(state: usize, kind: usize) -> bool
         | (kind == BODY)
         | (kind == FUNCTION)
         | (kind == CLASS);
-    ((state == VISIT) | (state == LIST)) & !turns
+    ((state == State::Visit) | (state == State::List)) & !turns
 }
 
 // The state inside such a row: a statement list's rows are visited.
-fn inside_state(state: usize) -> usize
-    ensures { result ≡ inside_state state }
+fn inside_state(state: State) -> State
+    ensures { state_number result ≡ inside_state (state_number state) }
 {
-    if state == LIST {
-        return VISIT;
+    match state {
+        State::List => State::Visit,
+        _ => state,
     }
-    state
 }
 
 // Whether row i is a direct `super(..)` statement of a list in which none was met yet.
-fn is_direct(rows: &[u8], state: usize, kind: usize, i: usize) -> bool
+fn is_direct(rows: &[u8], state: State, kind: usize, i: usize) -> bool
     requires { At rows.now (rows_in rows.now) i }
-    ensures { result ≡ direct_of state kind (super_call (children (words rows.now) i)) }
+    ensures { result ≡ direct_of (state_number state) kind (super_call (children (words rows.now) i)) }
 {
-    if (kind == EXPR_STMT) & (state == LIST) {
+    if (kind == EXPR_STMT) & (state == State::List) {
         return super_call(rows, i);
     }
     false
 }
 
 // Whether row i is known to stay as it is, with its children in its place and the state inside it.
-pub fn stays_at(rows: &[u8], switches: Switches, state: usize, q: Place, i: usize) -> bool
+pub fn stays_at(rows: &[u8], switches: Switches, state: State, q: Place, i: usize) -> bool
     requires { At rows.now (rows_in rows.now) i }
-    ensures { result ≡ true → Unchanged (switches_of switches) (place_of q) state (words rows.now) i }
+    ensures { result ≡ true → Unchanged (switches_of switches) (place_of q) (state_number state) (words rows.now) i }
 {
     let kind = kind_at(rows, i);
     if !is_steady(state, kind) {
@@ -186,9 +185,9 @@ pub fn words_at(rows: &[u8], i: usize) -> Words
 }
 
 // The children of row i, where they stand in its place and the state inside it.
-pub fn along(rows: &[u8], bind: usize, state: usize, q: Place, i: usize) -> Siblings
+pub fn along(rows: &[u8], bind: usize, state: State, q: Place, i: usize) -> Siblings
     requires { At rows.now (rows_in rows.now) i }
-    ensures { Along (words rows.now) bind state (place_of q) i result }
+    ensures { Along (words rows.now) bind (state_number state) (place_of q) i result }
 {
     let inside = q.inside();
     Siblings {

@@ -2,9 +2,11 @@
 
 #![tactic(auto)]
 
-ghost use Rattle.std.specs.Prelude.{◌≡◌, ℕ, ◌+◌, ◌*◌, ◌≤◌, ◌<◌, eqb, length, drop, get_or};
+ghost use Rattle.std.specs.Prelude.{◌≡◌, [], length, MatchOption};
 ghost use Rattle.fields.specs.Headers.{switch_header, name_header, row_header};
-ghost use Rattle.fields.specs.Fields.{up_to, part, fields, number, row_words, row_of, same_bytes, Next, switches_ok};
+ghost use Rattle.fields.specs.Fields.{up_to, fields, number, row_of, same_bytes, Parted, Lined, bit_of, three_bits};
+
+const NEWLINE: u8 = 10;
 
 const SPACE: u8 = 32;
 
@@ -12,216 +14,112 @@ const ZERO: u8 = 48;
 
 const ONE: u8 = 49;
 
-const NINE: u8 = 57;
-
-// The first b at or after `from`, or the end.
-pub fn find(s: &[u8], from: usize, b: u8) -> usize
-    requires { from ≤ length s.now }
-    ensures { (result ≡ from + length (up_to b (drop from s.now))) × (from ≤ result) × (result ≤ length s.now) }
+// What stands before the first b and behind it, or nothing where there is no b.
+fn split_once(s: &[u8], b: u8) -> Option<(&[u8], &[u8])>
+    ensures { MatchOption result (length (up_to b s.now) ≡ length s.now) (λ p. Parted b s.now p.0.now p.1.now) }
 {
-    let mut i = from;
-    while i < s.len() {
-        if s[i] == b {
-            return i;
-        }
-        i += 1;
-    }
-    i
+    let i = s.iter().position(|c| *c == b)?;
+    Some((&s[..i], &s[i + 1..]))
 }
 
-// The start of the line after the one that ends at e.
-pub fn next_line(s: &[u8], e: usize) -> usize
-    requires { e ≤ length s.now }
-    ensures { Next s.now e result }
+// The first line and what stands behind it, or nothing where there is no line.
+pub fn split_line(s: &[u8]) -> Option<(&[u8], &[u8])>
+    ensures { MatchOption result (s.now ≡ []) (λ p. Lined s.now p.0.now p.1.now) }
 {
-    if e < s.len() {
-        return e + 1;
+    if s.is_empty() {
+        return None;
     }
-    s.len()
-}
-
-// What a field spells.
-#[derive(Clone, Copy)]
-pub enum Number {
-    Value(u32),
-    Bad,
+    split_once(s, NEWLINE).or(Some((s, b"")))
 }
 
 // A decimal u32 without leading zeros.
-fn read_number(s: &[u8]) -> Number
+fn read_number(s: &[u8]) -> Option<u32>
     ensures { result ≡ number s.now }
 {
-    if s.len() == 0 {
-        return Number::Bad;
+    if s.is_empty() {
+        return None;
     }
-    if s.len() > 1 {
-        if s[0] == ZERO {
-            return Number::Bad;
-        }
+    if s.len() > 1 && s[0] == ZERO {
+        return None;
     }
-    let mut v: u64 = 0;
-    let mut i: usize = 0;
-    while i < s.len() {
-        let c = s[i];
-        if c < ZERO {
-            return Number::Bad;
+    let mut v: u32 = 0;
+    for c in s {
+        if !c.is_ascii_digit() {
+            return None;
         }
-        if NINE < c {
-            return Number::Bad;
-        }
-        v = v * 10 + (c - ZERO) as u64;
-        if 4294967295 < v {
-            return Number::Bad;
-        }
-        i += 1;
+        v = v.checked_mul(10)?.checked_add(u32::from(*c - ZERO))?;
     }
-    Number::Value(v as u32)
+    Some(v)
 }
 
-// The number in bytes `from` to `to`.
-fn number_at(s: &[u8], from: usize, to: usize) -> Number
-    requires { (from ≤ to) × (to ≤ length s.now) }
-    ensures { result ≡ number (part s.now from to) }
-{
-    read_number(&s[from..to])
-}
-
-// What a line spells.
+// What a row's line spells.
 #[derive(Clone, Copy)]
-pub enum Row {
-    Words(u32, u32, u32, u32),
-    Fault,
-}
-
-fn row_of(a: Number, b: Number, c: Number, d: Number) -> Row
-    ensures { result ≡ row_words a b c d }
-{
-    let Number::Value(k) = a else {
-        return Row::Fault;
-    };
-    let Number::Value(l) = b else {
-        return Row::Fault;
-    };
-    let Number::Value(m) = c else {
-        return Row::Fault;
-    };
-    let Number::Value(n) = d else {
-        return Row::Fault;
-    };
-    Row::Words(k, l, m, n)
+pub struct Row {
+    pub kind: u32,
+    pub attr: u32,
+    pub name: u32,
+    pub end: u32,
 }
 
 // A line of four fields.
-fn read_row(s: &[u8]) -> Row
-    ensures { result ≡ row_of (fields s.now) }
+pub fn read_row(line: &[u8]) -> Option<Row>
+    ensures { result ≡ row_of (fields line.now) }
 {
-    let i = find(s, 0, SPACE);
-    if i == s.len() {
-        return Row::Fault;
+    let (kind, rest) = split_once(line, SPACE)?;
+    let (attr, rest) = split_once(rest, SPACE)?;
+    let (name, end) = split_once(rest, SPACE)?;
+    if split_once(end, SPACE).is_some() {
+        return None;
     }
-    let j = find(s, i + 1, SPACE);
-    if j == s.len() {
-        return Row::Fault;
-    }
-    let k = find(s, j + 1, SPACE);
-    if k == s.len() {
-        return Row::Fault;
-    }
-    let l = find(s, k + 1, SPACE);
-    if l < s.len() {
-        return Row::Fault;
-    }
-    let a = number_at(s, 0, i);
-    let b = number_at(s, i + 1, j);
-    let c = number_at(s, j + 1, k);
-    let d = number_at(s, k + 1, l);
-    row_of(a, b, c, d)
+    Some(Row {
+        kind: read_number(kind)?,
+        attr: read_number(attr)?,
+        name: read_number(name)?,
+        end: read_number(end)?,
+    })
 }
 
-// The row in bytes `from` to `to`.
-pub fn row_at(s: &[u8], from: usize, to: usize) -> Row
-    requires { (from ≤ to) × (to ≤ length s.now) }
-    ensures { result ≡ row_of (fields (part s.now from to)) }
+#[tactic(auto, using(crate::proofs::Splitting::same_is))]
+pub fn is_switch_header(line: &[u8]) -> bool
+    ensures { result ≡ same_bytes line.now switch_header }
 {
-    read_row(&s[from..to])
+    line == b"arrow async asyncgen".as_slice()
 }
 
-// Whether a and b are the same bytes.
-fn same(a: &[u8], b: &[u8]) -> bool
-    ensures { result ≡ same_bytes a.now b.now }
+#[tactic(auto, using(crate::proofs::Splitting::same_is))]
+pub fn is_name_header(line: &[u8]) -> bool
+    ensures { result ≡ same_bytes line.now name_header }
 {
-    if a.len() != b.len() {
-        return false;
+    line == b"name".as_slice()
+}
+
+#[tactic(auto, using(crate::proofs::Splitting::same_is))]
+pub fn is_row_header(line: &[u8]) -> bool
+    ensures { result ≡ same_bytes line.now row_header }
+{
+    line == b"kind attr name end".as_slice()
+}
+
+// A switch.
+fn read_bit(c: u8) -> Option<bool>
+    ensures { result ≡ bit_of c }
+{
+    match c {
+        ZERO => Some(false),
+        ONE => Some(true),
+        _ => None,
     }
-    let mut i: usize = 0;
-    while i < a.len() {
-        if a[i] != b[i] {
-            return false;
-        }
-        i += 1;
-    }
-    true
-}
-
-pub fn is_switch_header(s: &[u8], from: usize, to: usize) -> bool
-    requires { (from ≤ to) × (to ≤ length s.now) }
-    ensures { result ≡ same_bytes (part s.now from to) switch_header }
-{
-    same(&s[from..to], b"arrow async asyncgen")
-}
-
-pub fn is_name_header(s: &[u8], from: usize, to: usize) -> bool
-    requires { (from ≤ to) × (to ≤ length s.now) }
-    ensures { result ≡ same_bytes (part s.now from to) name_header }
-{
-    same(&s[from..to], b"name")
-}
-
-pub fn is_row_header(s: &[u8], from: usize, to: usize) -> bool
-    requires { (from ≤ to) × (to ≤ length s.now) }
-    ensures { result ≡ same_bytes (part s.now from to) row_header }
-{
-    same(&s[from..to], b"kind attr name end")
 }
 
 // Three switches, each 0 or 1, one space apart.
-fn are_switches(s: &[u8]) -> bool
-    ensures { result ≡ switches_ok s.now }
+pub fn read_switches(line: &[u8]) -> Option<(bool, bool, bool)>
+    ensures { result ≡ three_bits line.now }
 {
-    if s.len() != 5 {
-        return false;
+    let [x, s, y, t, z] = line else {
+        return None;
+    };
+    if *s != SPACE || *t != SPACE {
+        return None;
     }
-    let x = s[0];
-    let y = s[2];
-    let z = s[4];
-    ((x == ZERO) | (x == ONE))
-        & (s[1] == SPACE)
-        & ((y == ZERO) | (y == ONE))
-        & (s[3] == SPACE)
-        & ((z == ZERO) | (z == ONE))
-}
-
-pub fn switches_at(s: &[u8], from: usize, to: usize) -> bool
-    requires { (from ≤ to) × (to ≤ length s.now) }
-    ensures { result ≡ switches_ok (part s.now from to) }
-{
-    are_switches(&s[from..to])
-}
-
-// Whether byte k is a 1.
-fn is_one(s: &[u8], k: usize) -> bool
-    ensures { result ≡ eqb (get_or s.now k 0) 49 }
-{
-    if k < s.len() {
-        return s[k] == ONE;
-    }
-    false
-}
-
-// Whether byte k of bytes `from` to `to` is a 1.
-pub fn is_on(s: &[u8], from: usize, to: usize, k: usize) -> bool
-    requires { (from ≤ to) × (to ≤ length s.now) }
-    ensures { result ≡ eqb (get_or (part s.now from to) k 0) 49 }
-{
-    is_one(&s[from..to], k)
+    Some((read_bit(*x)?, read_bit(*y)?, read_bit(*z)?))
 }

@@ -1,4 +1,5 @@
 -- A table without a fault is the words of exactly one forest, and the forest is well-formed. Assumes nothing.
+use Rattle.std.specs.Prelude.{Option, Some, None}
 use mathlib.Core.Path.{◌≡◌, refl, ap, sym, subst, ◌∙◌}
 use mathlib.Core.Bool.{Bool, true, false, cond}
 use mathlib.Core.List.{List, [], ◌∷◌, ◌++◌, append-nil}
@@ -14,26 +15,27 @@ use Rattle.names.specs.Words.{kind_at, attr_at, name_at, end_at}
 use Rattle.grammar.specs.Grammar.{top_place}
 use Rattle.forest.specs.Forest.{Rows, none, node, size, count, flat, tree, rows_at, row_ok, Table}
 use Rattle.forest.specs.Nested.{Nested}
-use Rattle.forest.specs.Faults.{kids, kids_of}
+use Rattle.forest.specs.Faults.{kids, kids_of, told, or_else}
 use Rattle.forest.specs.Told.{told_by, fault_at, lowest_from, lowest_fault}
-use Rattle.forest.specs.declared.RowFault.TheVariants.{Fine, Bad}
+use Rattle.forest.specs.declared.Fault.{Fault}
+use Rattle.forest.specs.declared.BadRow.{BadRow}
 use Rattle.forest.proofs.Children.{kids-fuel}
 use Rattle.forest.proofs.Slices.{cons4}
 use Rattle.forest.proofs.Marks.{mark-place}
 use Rattle.forest.proofs.Nesting.{mark-good, tree-more, tree_done, Fit, fit, Under, nest, says_first}
 
-fine_cases : (ws : List ℕ) (n names f i F : ℕ) (b : Bool) → eqb F 0 ≡ b → cond b (lowest_from ws n names f (i + 1)) (Bad F i) ≡ Fine → (F ≡ 0) × (lowest_from ws n names f (i + 1) ≡ Fine)
-fine_cases ws n names f i F true q h = (eqb-true F 0 q, h)
-fine_cases ws n names f i F false q h = absurd (let z : ◌≡◌ {A = ℕ} 0 1 = cc in omega arith)
+fine_cases : (F : Option Fault) (i : ℕ) (later : Option BadRow) → or_else (told F i) later ≡ None → (F ≡ None) × (later ≡ None)
+fine_cases None i later h = (refl, h)
+fine_cases (Some fault) i later h = absurd (let z : ◌≡◌ {A = ℕ} 0 1 = cc in omega arith)
 
-no_fault : (ws : List ℕ) (n names f i : ℕ) → lowest_from ws n names f i ≡ Fine → (j : ℕ) → i ≤ j → j < i + f → fault_at ws n names j ≡ 0
+no_fault : (ws : List ℕ) (n names f i : ℕ) → lowest_from ws n names f i ≡ None → (j : ℕ) → i ≤ j → j < i + f → fault_at ws n names j ≡ None
 unfolding lowest_from
 no_fault ws n names zero i h j a b = absurd (omega arith)
 no_fault ws n names (suc f) i h j a b =
-    let r = fine_cases ws n names f i (fault_at ws n names i) (eqb (fault_at ws n names i) 0) refl h in
-    ⊎_elim (λ z. subst (λ (x : ℕ). fault_at ws n names x ≡ 0) z r.0) (λ z. no_fault ws n names f (i + 1) r.1 j (omega arith) (omega arith)) (eq-or-lt_of_le a)
+    let r = fine_cases (fault_at ws n names i) i (lowest_from ws n names f (i + 1)) h in
+    ⊎_elim (λ z. subst (λ (x : ℕ). fault_at ws n names x ≡ None) z r.0) (λ z. no_fault ws n names f (i + 1) r.1 j (omega arith) (omega arith)) (eq-or-lt_of_le a)
 
-pub none-faulty : (ws : List ℕ) (n names : ℕ) → lowest_fault ws n names ≡ Fine → (i : ℕ) → i < n → Fit ws n names i
+pub none-faulty : (ws : List ℕ) (n names : ℕ) → lowest_fault ws n names ≡ None → (i : ℕ) → i < n → Fit ws n names i
 unfolding lowest_fault
 none-faulty ws n names h i l = fit ws n names i (no_fault ws n names n 0 h i (omega arith) (omega arith))
 

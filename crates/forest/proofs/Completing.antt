@@ -1,4 +1,5 @@
 -- The words of a well-formed forest have no fault. Assumes nothing.
+use Rattle.std.specs.Prelude.{None}
 use mathlib.Core.Path.{◌≡◌, refl, ap, sym, subst, ◌∙◌}
 use mathlib.Core.Bool.{Bool, true, ◌&&◌}
 use mathlib.Core.List.{List, ◌∷◌, ◌++◌}
@@ -15,7 +16,6 @@ use Rattle.grammar.specs.Grammar.{top_place, place_of, kind_ok, attr_ok, fits, c
 use Rattle.forest.specs.Forest.{Rows, none, node, size, count, flat, row_ok, WellFormed, Table}
 use Rattle.forest.specs.Faults.{end_good, kids, kids_of, early_fault, late_fault, fault_of}
 use Rattle.forest.specs.Told.{told_by, marks, top_mark, fault_at, lowest_from, lowest_fault}
-use Rattle.forest.specs.declared.RowFault.TheVariants.{Fine}
 use Rattle.names.proofs.Bools.{and_left, and_right, and_both, lt_or_ge}
 use Rattle.forest.proofs.Children.{kids-good, kids_done, kids-fuel}
 use Rattle.forest.proofs.Telling.{told_child, tells_next}
@@ -30,7 +30,7 @@ row_same names place k k' a a' n n' c c' qk qa qn qc h =
     ap (λ (x : ℕ). row_ok names place x a n c) qk ∙ ap (λ (x : ℕ). row_ok names place k' x n c) qa ∙ ap (λ (x : ℕ). row_ok names place k' a' x c) qn ∙ ap (λ (x : ℕ). row_ok names place k' a' n' x) qc ∙ h
 
 -- a row that is as the grammar says has no fault
-good_row : (ws : List ℕ) (names place i : ℕ) → row_ok names place (kind_at ws i) (attr_at ws i) (name_at ws i) (length (kids_of ws i)) ≡ true → fault_of ws names place true i ≡ 0
+good_row : (ws : List ℕ) (names place i : ℕ) → row_ok names place (kind_at ws i) (attr_at ws i) (name_at ws i) (length (kids_of ws i)) ≡ true → fault_of ws names place true i ≡ None
 unfolding fault_of early_fault late_fault
 good_row ws names place i h =
     let k = kind_at ws i in
@@ -77,7 +77,7 @@ module _ (ws : List ℕ) (n names : ℕ) (long : 4 * n ≤ length ws) where
   -- of the rows from c up to p's end, which are the forest g
   record Clean (p c f : ℕ) (g : Rows) : Type 0 where
     within : (q : ℕ) → c ≤ q → q < end_at ws p → end_at ws q ≤ end_at ws p
-    clean : (q : ℕ) → c ≤ q → q < end_at ws p → fault_at ws n names q ≡ 0
+    clean : (q : ℕ) → c ≤ q → q < end_at ws p → fault_at ws n names q ≡ None
     many : count g ≡ length (kids ws f c (end_at ws p))
 
   cleaned : (g : Rows) (p c pos f : ℕ) → p < c → c + size g ≡ end_at ws p → end_at ws p ≤ n → end_at ws p ≤ c + f → flat c g ≡ slice (4 * c) (4 * end_at ws p) ws
@@ -104,16 +104,16 @@ module _ (ws : List ℕ) (n names : ℕ) (long : 4 * n ≤ length ws) where
       (before_next ws p c before past inside.within) (tells_next ws (marks ws) (top_mark (end_at ws 0) n) p c pos f says ce g) in
       let row : row_ok names place (kind_at ws c) (attr_at ws c) (name_at ws c) (length (kids ws (end_at ws c) (c + 1) (end_at ws c))) ≡ true = row_same names place (kind_at ws c) k (attr_at ws c) a (name_at ws c) nm
       (length (kids ws (end_at ws c) (c + 1) (end_at ws c))) (count i) F.fk F.fa F.fn (ap length kf ∙ sym inside.many) wf.0 in
-      let here : fault_at ws n names c ≡ 0 =
+      let here : fault_at ws n names c ≡ None =
       fault-by ws n names c place (end_good ws c (end_at ws p)) (place-small (kind_at ws p) (attr_at ws p) pos) (told_child ws (marks ws) (top_mark (end_at ws 0) n) p c pos f pc ce before says) (λ g. omega arith)
       ∙ ap (λ (b : Bool). fault_of ws names place b c) g ∙ good_row ws names place c row in
       record {
         within = within-next ws c (end_at ws p) inn inside.within after.within;
-        clean = λ q x y. ⊎_elim (λ z. subst (λ (x : ℕ). fault_at ws n names x ≡ 0) z here) (λ z. ⊎_elim (λ w. inside.clean q (omega arith) w) (λ w. after.clean q w y) (lt_or_ge q (end_at ws c))) (eq-or-lt_of_le x);
+        clean = λ q x y. ⊎_elim (λ z. subst (λ (x : ℕ). fault_at ws n names x ≡ None) z here) (λ z. ⊎_elim (λ w. inside.clean q (omega arith) w) (λ w. after.clean q w y) (lt_or_ge q (end_at ws c))) (eq-or-lt_of_le x);
         many = ap suc after.many ∙ ap length (sym (kids-good ws f c (end_at ws p) ce g));
       }
 
-all_fine : (ws : List ℕ) (n names f i : ℕ) → ((q : ℕ) → i ≤ q → q < i + f → fault_at ws n names q ≡ 0) → lowest_from ws n names f i ≡ Fine
+all_fine : (ws : List ℕ) (n names f i : ℕ) → ((q : ℕ) → i ≤ q → q < i + f → fault_at ws n names q ≡ None) → lowest_from ws n names f i ≡ None
 unfolding lowest_from
 all_fine ws n names zero i h = refl
 all_fine ws n names (suc f) i h = rw (h i (omega arith) (omega arith)) (all_fine ws n names f (i + 1) (λ q a b. h q (omega arith) (omega arith)))
@@ -138,7 +138,7 @@ module _ (names k a nm : ℕ) (i : Rows) (t : Table names (node k a nm i none)) 
       (λ q x y. absurd (omega arith))
       (says_first ws n names 0 n (omega arith))
 
-  first0 : fault_at ws n names 0 ≡ 0
+  first0 : fault_at ws n names 0 ≡ None
   unfolding kids_of told_by
   first0 =
       let e : end_at ws 0 ≡ 0 + 1 + size i = root.fe in
@@ -148,14 +148,14 @@ module _ (names k a nm : ℕ) (i : Rows) (t : Table names (node k a nm i none)) 
       fault-by ws n names 0 top_place (eqb (end_at ws 0) n) (lit< tt) refl (λ g. omega arith)
       ∙ ap (λ (b : Bool). fault_of ws names top_place b 0) (eq-eqb (end_at ws 0) n (omega arith)) ∙ good_row ws names top_place 0 row
 
-  pub complete-at : lowest_fault ws n names ≡ Fine
+  pub complete-at : lowest_fault ws n names ≡ None
   unfolding lowest_fault
   complete-at =
       let e : end_at ws 0 ≡ 0 + 1 + size i = root.fe in
-      all_fine ws n names n 0 (λ q x y. ⊎_elim (λ z. subst (λ (x : ℕ). fault_at ws n names x ≡ 0) z first0) (λ z. clean0.clean q z (omega arith)) (eq-or-lt_of_le x))
+      all_fine ws n names n 0 (λ q x y. ⊎_elim (λ z. subst (λ (x : ℕ). fault_at ws n names x ≡ None) z first0) (λ z. clean0.clean q z (omega arith)) (eq-or-lt_of_le x))
 
 -- the words of a well-formed table have no fault
-pub complete : (names : ℕ) (f : Rows) → Table names f → lowest_fault (flat 0 f) (size f) names ≡ Fine
+pub complete : (names : ℕ) (f : Rows) → Table names f → lowest_fault (flat 0 f) (size f) names ≡ None
 unfolding size
 complete names none t = absurd t
 complete names (node k a nm i none) t = complete-at names k a nm i t (flat 0 (node k a nm i none)) refl (1 + size i + 0) (omega arith)

@@ -1,4 +1,5 @@
 -- The lowest row with a fault, as the visit of the rows in order finds it, is the first fault of the descent from row 0. Assumes nothing.
+use Rattle.std.specs.Prelude.{Option, Some, None}
 use mathlib.Core.Path.{◌≡◌, refl, ap, sym, ◌∙◌}
 use mathlib.Core.Bool.{Bool, true, false, cond, ◌&&◌}
 use mathlib.Core.List.{List}
@@ -11,8 +12,8 @@ use Rattle.names.specs.Words.{kind_at, attr_at, end_at}
 use Rattle.grammar.specs.Grammar.{top_place, place_of}
 use Rattle.forest.specs.Faults.{end_good, fault_of, told, or_else, fault_from, first_fault}
 use Rattle.forest.specs.Told.{told_by, mark, marks, top_mark, mark_at, fault_at, lowest_from, lowest_fault}
-use Rattle.forest.specs.declared.RowFault.{RowFault}
-use Rattle.forest.specs.declared.RowFault.TheVariants.{Fine, Bad}
+use Rattle.forest.specs.declared.Fault.{Fault}
+use Rattle.forest.specs.declared.BadRow.{BadRow}
 use Rattle.names.proofs.Bools.{lt_or_ge}
 use Rattle.forest.proofs.Children.{good-past, good-within}
 use Rattle.forest.proofs.Telling.{told_child, tells_next}
@@ -21,23 +22,20 @@ use Rattle.grammar.proofs.Places.{place-small}
 use Rattle.forest.proofs.Marks.{mark-place, mark-ends}
 use Rattle.forest.proofs.Nesting.{Before, before_next, within-next, met, Says, says_first}
 
-or_assoc : (u v w : RowFault) → or_else (or_else u v) w ≡ or_else u (or_else v w)
-or_assoc Fine v w = refl
-or_assoc (Bad c r) v w = refl
+or_assoc : (u v w : Option BadRow) → or_else (or_else u v) w ≡ or_else u (or_else v w)
+or_assoc None v w = refl
+or_assoc (Some b) v w = refl
 
-which : (v : RowFault) → (v ≡ Fine) ⊎ ((c : ℕ) × (r : ℕ) × (v ≡ Bad c r))
-which Fine = inl refl
-which (Bad c r) = inr (c, r, refl)
+which : (v : Option BadRow) → (v ≡ None) ⊎ ((b : BadRow) × (v ≡ Some b))
+which None = inl refl
+which (Some b) = inr (b, refl)
 
-not_fine : (c r : ℕ) (v : RowFault) → v ≡ Bad c r → v ≡ Fine → ⊥
-not_fine c r v p q = let z : ◌≡◌ {A = ℕ} 0 1 = cc in omega arith
+not_fine : (b : BadRow) (v : Option BadRow) → v ≡ Some b → v ≡ None → ⊥
+not_fine b v p q = let z : ◌≡◌ {A = ℕ} 0 1 = cc in omega arith
 
-told_fine : (class row : ℕ) → told class row ≡ Fine → class ≡ 0
-told_fine class row h = go (eqb class 0) refl h
-  where
-    go : (b : Bool) → eqb class 0 ≡ b → cond b Fine (Bad class row) ≡ Fine → class ≡ 0
-    go true q h = eqb-true _ _ q
-    go false q h = absurd (not_fine class row Fine (sym h) refl)
+told_fine : (fault : Option Fault) (row : ℕ) → told fault row ≡ None → fault ≡ None
+told_fine None row h = refl
+told_fine (Some fault) row h = absurd (not_fine (record { fault = fault; row = row }) _ refl h)
 
 and-good : (b c : Bool) → (b ≡ true → c ≡ true) → (b && c) ≡ b
 and-good true c h = h refl
@@ -45,16 +43,12 @@ and-good false c h = refl
 
 module _ (ws : List ℕ) (n names : ℕ) where
   -- the first fault of the count rows from i on
-  abbrev First : ℕ → ℕ → RowFault
+  abbrev First : ℕ → ℕ → Option BadRow
   First count i = lowest_from ws n names count i
 
   first_row : (f i : ℕ) → First (suc f) i ≡ or_else (told (fault_at ws n names i) i) (First f (i + 1))
   unfolding lowest_from
-  first_row f i = go (eqb (fault_at ws n names i) 0)
-    where
-      go : (b : Bool) → cond b (First f (i + 1)) (Bad (fault_at ws n names i) i) ≡ or_else (cond b Fine (Bad (fault_at ws n names i) i)) (First f (i + 1))
-      go true = refl
-      go false = refl
+  first_row f i = refl
 
   first-split : (d f g i : ℕ) → g ≡ d + f → First g i ≡ or_else (First d i) (First f (i + d))
   unfolding lowest_from
@@ -67,9 +61,9 @@ module _ (ws : List ℕ) (n names : ℕ) where
       let qi : i + 1 + d ≡ i + suc d = omega arith in
       ap (λ (x : ℕ). First x i) qg
       ∙ first_row (d + f) i
-      ∙ ap (λ (v : RowFault). or_else (told (fault_at ws n names i) i) v) (first-split d f (d + f) (i + 1) refl ∙ ap (λ (x : ℕ). or_else (First d (i + 1)) (First f x)) qi)
+      ∙ ap (λ (v : Option BadRow). or_else (told (fault_at ws n names i) i) v) (first-split d f (d + f) (i + 1) refl ∙ ap (λ (x : ℕ). or_else (First d (i + 1)) (First f x)) qi)
       ∙ sym (or_assoc (told (fault_at ws n names i) i) (First d (i + 1)) (First f (i + suc d)))
-      ∙ ap (λ (v : RowFault). or_else v (First f (i + suc d))) (sym (first_row d i))
+      ∙ ap (λ (v : Option BadRow). or_else v (First f (i + suc d))) (sym (first_row d i))
 
   -- a row's fault by its mark, where the mark says its place and whether its end is good
   pub fault-by : (i place : ℕ) (ends : Bool) → place < 16 → met ws n names i ≡ mark place ends → (ends ≡ true → end_at ws i ≤ n) → fault_at ws n names i ≡ fault_of ws names place ends i
@@ -81,19 +75,19 @@ module _ (ws : List ℕ) (n names : ℕ) where
       ap (λ (x : ℕ). fault_of ws names x (ltb (met ws n names i) 16 && leb (end_at ws i) n) i) p ∙ ap (λ (b : Bool). fault_of ws names place b i) e
 
   -- without a fault the end is good
-  ends-good : (place : ℕ) (ends : Bool) (i : ℕ) → fault_of ws names place ends i ≡ 0 → ends ≡ true
+  ends-good : (place : ℕ) (ends : Bool) (i : ℕ) → fault_of ws names place ends i ≡ None → ends ≡ true
   unfolding fault_of
   ends-good place ends i h = (early_none _ _ _ _ _ h).0.1.1
 
   -- the descent from row c, a child of p, gives the first fault of the rows from c up to p's end; and where there is none, they end within it
   record Down (f p c pos : ℕ) : Type 0 where
     same : fault_from ws names f (kind_at ws p) (attr_at ws p) (end_at ws p) pos c ≡ First (end_at ws p - c) c
-    within : First (end_at ws p - c) c ≡ Fine → (q : ℕ) → c ≤ q → q < end_at ws p → end_at ws q ≤ end_at ws p
+    within : First (end_at ws p - c) c ≡ None → (q : ℕ) → c ≤ q → q < end_at ws p → end_at ws q ≤ end_at ws p
 
   abbrev Downs : ℕ → Type 0
   Downs f = (p c pos : ℕ) → end_at ws p ≤ n → p < c → c ≤ end_at ws p → end_at ws p ≤ c + f → Before ws p c → Says ws n names p c pos f → Down f p c pos
 
-  from-none : (f k a e pos c : ℕ) → e ≤ c → fault_from ws names f k a e pos c ≡ Fine
+  from-none : (f k a e pos c : ℕ) → e ≤ c → fault_from ws names f k a e pos c ≡ None
   unfolding fault_from
   from-none zero k a e pos c h = refl
   from-none (suc f) k a e pos c h = rw (le-ltb c e h)
@@ -113,7 +107,7 @@ module _ (ws : List ℕ) (n names : ℕ) where
   from_more f k a e pos c h = rw (lt-ltb c e h)
 
   module _ (f : ℕ) (ih : Downs f) (p c pos : ℕ) (en : end_at ws p ≤ n) (pc : p < c) (room : end_at ws p ≤ c + suc f) (before : Before ws p c) (says : Says ws n names p c pos (suc f)) (ce : c < end_at ws p) where
-    abbrev fault : ℕ
+    abbrev fault : Option Fault
     fault = fault_of ws names (place_of (kind_at ws p) (attr_at ws p) pos) (end_good ws c (end_at ws p)) c
 
     same-fault : fault_at ws n names c ≡ fault
@@ -122,10 +116,10 @@ module _ (ws : List ℕ) (n names : ℕ) where
         (told_child ws (marks ws) (top_mark (end_at ws 0) n) p c pos f pc ce before says)
         (λ g. let inn = good-within ws c (end_at ws p) g in omega arith)
 
-    abbrev Inside : RowFault
+    abbrev Inside : Option BadRow
     Inside = fault_from ws names f (kind_at ws c) (attr_at ws c) (end_at ws c) 0 (c + 1)
 
-    abbrev After : RowFault
+    abbrev After : Option BadRow
     After = fault_from ws names f (kind_at ws p) (attr_at ws p) (end_at ws p) (pos + 1) (end_at ws c)
 
     left : fault_from ws names (suc f) (kind_at ws p) (attr_at ws p) (end_at ws p) pos c ≡ or_else (told fault c) (or_else Inside After)
@@ -134,17 +128,17 @@ module _ (ws : List ℕ) (n names : ℕ) where
     right : First (end_at ws p - c) c ≡ or_else (told fault c) (First (end_at ws p - (c + 1)) (c + 1))
     right =
         let q : end_at ws p - c ≡ suc (end_at ws p - (c + 1)) = omega arith in
-        ap (λ (x : ℕ). First x c) q ∙ first_row (end_at ws p - (c + 1)) c ∙ ap (λ (x : ℕ). or_else (told x c) (First (end_at ws p - (c + 1)) (c + 1))) same-fault
+        ap (λ (x : ℕ). First x c) q ∙ first_row (end_at ws p - (c + 1)) c ∙ ap (λ (x : Option Fault). or_else (told x c) (First (end_at ws p - (c + 1)) (c + 1))) same-fault
 
     -- row c is bad
-    bad-row : (b r : ℕ) → told fault c ≡ Bad b r → Down (suc f) p c pos
-    bad-row b r q = record {
-      same = left ∙ ap (λ (v : RowFault). or_else v (or_else Inside After)) q ∙ sym (right ∙ ap (λ (v : RowFault). or_else v (First (end_at ws p - (c + 1)) (c + 1))) q);
-      within = λ z. absurd (not_fine b r (First (end_at ws p - c) c) (right ∙ ap (λ (v : RowFault). or_else v (First (end_at ws p - (c + 1)) (c + 1))) q) z);
+    bad-row : (b : BadRow) → told fault c ≡ Some b → Down (suc f) p c pos
+    bad-row b q = record {
+      same = left ∙ ap (λ (v : Option BadRow). or_else v (or_else Inside After)) q ∙ sym (right ∙ ap (λ (v : Option BadRow). or_else v (First (end_at ws p - (c + 1)) (c + 1))) q);
+      within = λ z. absurd (not_fine b (First (end_at ws p - c) c) (right ∙ ap (λ (v : Option BadRow). or_else v (First (end_at ws p - (c + 1)) (c + 1))) q) z);
     }
 
     -- row c is good
-    module _ (q : told fault c ≡ Fine) where
+    module _ (q : told fault c ≡ None) where
       g : end_good ws c (end_at ws p) ≡ true
       g = ends-good _ _ c (told_fine fault c q)
 
@@ -157,73 +151,76 @@ module _ (ws : List ℕ) (n names : ℕ) where
       inside : Down f c (c + 1) 0
       inside = ih c (c + 1) 0 (omega (arith, inn)) (omega arith) (omega (arith, past)) (omega (arith, inn)) (λ q a b. absurd (omega arith)) (says_first ws n names c f (omega (arith, inn)))
 
-      abbrev F1 : RowFault
+      abbrev F1 : Option BadRow
       F1 = First (end_at ws c - (c + 1)) (c + 1)
 
-      abbrev F2 : RowFault
+      abbrev F2 : Option BadRow
       F2 = First (end_at ws p - end_at ws c) (end_at ws c)
 
       whole : First (end_at ws p - c) c ≡ or_else F1 F2
       whole =
           let e1 : end_at ws p - (c + 1) ≡ end_at ws c - (c + 1) + (end_at ws p - end_at ws c) = omega (arith, past, inn) in
           let e2 : c + 1 + (end_at ws c - (c + 1)) ≡ end_at ws c = omega (arith, past) in
-          right ∙ ap (λ (v : RowFault). or_else v (First (end_at ws p - (c + 1)) (c + 1))) q
+          right ∙ ap (λ (v : Option BadRow). or_else v (First (end_at ws p - (c + 1)) (c + 1))) q
           ∙ first-split (end_at ws c - (c + 1)) (end_at ws p - end_at ws c) (end_at ws p - (c + 1)) (c + 1) e1
           ∙ ap (λ (x : ℕ). or_else (First (end_at ws c - (c + 1)) (c + 1)) (First (end_at ws p - end_at ws c) x)) e2
 
       walked : fault_from ws names (suc f) (kind_at ws p) (attr_at ws p) (end_at ws p) pos c ≡ or_else F1 After
-      walked = left ∙ ap (λ (v : RowFault). or_else v (or_else Inside After)) q ∙ ap (λ (v : RowFault). or_else v After) inside.same
+      walked = left ∙ ap (λ (v : Option BadRow). or_else v (or_else Inside After)) q ∙ ap (λ (v : Option BadRow). or_else v After) inside.same
 
-      bad-inside : (b r : ℕ) → F1 ≡ Bad b r → Down (suc f) p c pos
-      bad-inside b r y = record {
-        same = walked ∙ ap (λ (v : RowFault). or_else v After) y ∙ sym (whole ∙ ap (λ (v : RowFault). or_else v F2) y);
-        within = λ z. absurd (not_fine b r (First (end_at ws p - c) c) (whole ∙ ap (λ (v : RowFault). or_else v F2) y) z);
+      bad-inside : (b : BadRow) → F1 ≡ Some b → Down (suc f) p c pos
+      bad-inside b y = record {
+        same = walked ∙ ap (λ (v : Option BadRow). or_else v After) y ∙ sym (whole ∙ ap (λ (v : Option BadRow). or_else v F2) y);
+        within = λ z. absurd (not_fine b (First (end_at ws p - c) c) (whole ∙ ap (λ (v : Option BadRow). or_else v F2) y) z);
       }
 
-      good-inside : F1 ≡ Fine → Down (suc f) p c pos
+      good-inside : F1 ≡ None → Down (suc f) p c pos
       good-inside y =
           let pa : c < end_at ws c = past in
           let wi = inside.within y in
           let after : Down f p (end_at ws c) (pos + 1) = ih p (end_at ws c) (pos + 1) en (omega arith) inn (omega arith) (before_next ws p c before pa wi) (tells_next ws (marks ws) (top_mark (end_at ws 0) n) p c pos f says ce g) in
           record {
-            same = walked ∙ ap (λ (v : RowFault). or_else v After) y ∙ after.same ∙ sym (whole ∙ ap (λ (v : RowFault). or_else v F2) y);
-            within = λ z. within-next ws c (end_at ws p) inn wi (after.within (sym (whole ∙ ap (λ (v : RowFault). or_else v F2) y) ∙ z));
+            same = walked ∙ ap (λ (v : Option BadRow). or_else v After) y ∙ after.same ∙ sym (whole ∙ ap (λ (v : Option BadRow). or_else v F2) y);
+            within = λ z. within-next ws c (end_at ws p) inn wi (after.within (sym (whole ∙ ap (λ (v : Option BadRow). or_else v F2) y) ∙ z));
           }
 
       good_row : Down (suc f) p c pos
-      good_row = ⊎_elim good-inside (λ w. bad-inside w.0 w.1 w.2) (which F1)
+      good_row = ⊎_elim good-inside (λ w. bad-inside w.0 w.1) (which F1)
 
     down_step : Down (suc f) p c pos
-    down_step = ⊎_elim good_row (λ w. bad-row w.0 w.1 w.2) (which (told fault c))
+    down_step = ⊎_elim good_row (λ w. bad-row w.0 w.1) (which (told fault c))
 
   down : (f : ℕ) → Downs f
   down zero p c pos en pc ce room before says = down_end zero p c pos ce (omega arith)
   down (suc f) p c pos en pc ce room before says =
       ⊎_elim (λ h. down_step f (down f) p c pos en pc room before says h) (λ h. down_end (suc f) p c pos ce h) (lt_or_ge c (end_at ws p))
 
-  abbrev top : ℕ
+  abbrev top : Option Fault
   top = fault_of ws names top_place (eqb (end_at ws 0) n) 0
 
   top-fault : fault_at ws n names 0 ≡ top
   unfolding told_by
   top-fault = fault-by 0 top_place (eqb (end_at ws 0) n) (lit< tt) refl (λ g. let e : end_at ws 0 ≡ n = eqb-true _ _ g in omega arith)
 
-  abbrev below : RowFault
+  abbrev below : Option BadRow
   below = fault_from ws names n (kind_at ws 0) (attr_at ws 0) (end_at ws 0) 0 1
 
   pub first-lowest : 0 < n → first_fault ws n names ≡ lowest_fault ws n names
   unfolding first_fault lowest_fault
-  first-lowest some = ⊎_elim fine (λ w. worse w.0 w.1 w.2) (which (told top 0))
+  first-lowest some = ⊎_elim fine (λ w. worse w.0 w.1) (which (told top 0))
     where
       right0 : First n 0 ≡ or_else (told top 0) (First (n - 1) 1)
-      right0 = let q : n ≡ suc (n - 1) = omega arith in ap (λ (x : ℕ). First x 0) q ∙ first_row (n - 1) 0 ∙ ap (λ (x : ℕ). or_else (told x 0) (First (n - 1) 1)) top-fault
+      right0 = let q : n ≡ suc (n - 1) = omega arith in ap (λ (x : ℕ). First x 0) q ∙ first_row (n - 1) 0 ∙ ap (λ (x : Option Fault). or_else (told x 0) (First (n - 1) 1)) top-fault
 
-      worse : (b r : ℕ) → told top 0 ≡ Bad b r → or_else (told top 0) below ≡ First n 0
-      worse b r z = ap (λ (v : RowFault). or_else v below) z ∙ sym (right0 ∙ ap (λ (v : RowFault). or_else v (First (n - 1) 1)) z)
+      worse : (b : BadRow) → told top 0 ≡ Some b → or_else (told top 0) below ≡ First n 0
+      worse b z = ap (λ (v : Option BadRow). or_else v below) z ∙ sym (right0 ∙ ap (λ (v : Option BadRow). or_else v (First (n - 1) 1)) z)
 
-      fine : told top 0 ≡ Fine → or_else (told top 0) below ≡ First n 0
+      fine : told top 0 ≡ None → or_else (told top 0) below ≡ First n 0
       fine z =
           let e0 : end_at ws 0 ≡ n = eqb-true _ _ (ends-good _ _ 0 (told_fine top 0 z)) in
           let d : Down n 0 1 0 = down n 0 1 0 (omega arith) (omega arith) (omega arith) (omega arith) (λ q a b. absurd (omega arith)) (says_first ws n names 0 n (omega arith)) in
           let e1 : end_at ws 0 - 1 ≡ n - 1 = omega arith in
-          ap (λ (v : RowFault). or_else v below) z ∙ d.same ∙ ap (λ (x : ℕ). First x 1) e1 ∙ sym (right0 ∙ ap (λ (v : RowFault). or_else v (First (n - 1) 1)) z)
+          ap (λ (v : Option BadRow). or_else v below) z ∙ d.same ∙ ap (λ (x : ℕ). First x 1) e1 ∙ sym (right0 ∙ ap (λ (v : Option BadRow). or_else v (First (n - 1) 1)) z)
+
+pub by_lowest : (ws : List ℕ) (n names : ℕ) → 0 < n → lowest_fault ws n names ≡ first_fault ws n names
+by_lowest ws n names some = sym (first-lowest ws n names some)

@@ -1,4 +1,5 @@
 -- Where no row has a fault, the rows nest: each row's children, and all below them, are the words of a well-formed forest. Assumes nothing.
+use Rattle.std.specs.Prelude.{None}
 use mathlib.Core.Path.{◌≡◌, refl, ap, sym, subst, ◌∙◌}
 use mathlib.Core.Bool.{Bool, true, false}
 use mathlib.Core.List.{List, ◌∷◌, ◌++◌}
@@ -66,7 +67,7 @@ module _ (ws : List ℕ) (n names : ℕ) where
     pub low : met i < 16
     pub row : row_ok names (met i % 16) (kind_at ws i) (attr_at ws i) (name_at ws i) (length (kids_of ws i)) ≡ true
 
-  pub fit : (i : ℕ) → fault_at ws n names i ≡ 0 → Fit i
+  pub fit : (i : ℕ) → fault_at ws n names i ≡ None → Fit i
   unfolding fault_at fault_of mark_at
   fit i h =
       let ea = early_none _ _ _ _ _ h in

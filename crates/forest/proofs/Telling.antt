@@ -13,7 +13,7 @@ use lib.Seq.{get_or-set_same, get_or-set_other}
 use Rattle.names.specs.Words.{end_at}
 use Rattle.names.proofs.Zeros.{zeros}
 use Rattle.forest.specs.Faults.{end_good, kids, kids_of}
-use Rattle.forest.specs.Told.{told_in, told_by, Fresh}
+use Rattle.forest.specs.Told.{told_in, told_by, Fresh, first_then, to_all}
 use Rattle.forest.proofs.Children.{good-past, kids-good, kids-bad, kids_done}
 
 module _ (ws : List ℕ) (say : ℕ → ℕ → ℕ) (e : ℕ) where
@@ -125,6 +125,20 @@ module _ (ws : List ℕ) (say : ℕ → ℕ → ℕ) (e : ℕ) where
         many = sym (t.many ∙ ap (λ (l : List ℕ). pos + length l) ks ∙ add-zero pos);
         each = λ j. sym (t.rest j ∙ ap (λ (l : List ℕ). told_in say pos l j (get_or R j 0)) ks);
       }
+
+-- a later child's value
+pub then-more : (one more pos c : ℕ) → first_then one more (pos + 1) c ≡ more
+then-more one more pos c = rw (ne_eqb (pos + 1) 0 (λ e. omega arith))
+
+-- one value for the first child and the same for the later ones is one for all
+both-same : (b : Bool) (d : ℕ) → cond b d d ≡ d
+both-same true d = refl
+both-same false d = refl
+
+pub told-all : (d pos : ℕ) (K : List ℕ) (j v : ℕ) → told_in (first_then d d) pos K j v ≡ told_in (to_all d) pos K j v
+unfolding told_in
+told-all d pos [] j v = refl
+told-all d pos (c ∷ K) j v = rw (both-same (eqb pos 0) d, told-all d (pos + 1) K j v)
 
 -- The visit of the rows in order, with what each has been told in an array R.
 cond-zero : (b : Bool) → ◌≡◌ {A = ℕ} 0 (cond b 0 0)

@@ -1,13 +1,12 @@
 -- What each row is told by its parent, over any words, as a visit of the rows in order finds it: each row tells its children, which it finds by hopping over ends.
 -- A row's parent is the last row before it among whose children it is. Assumes nothing.
-use Rattle.std.specs.Prelude.{◌≡◌, ℕ, zero, suc, ◌+◌, ◌%◌, ◌≤◌, Bool, cond, ◌&&◌, List, [], ◌∷◌, eqb, ltb, leb, length, get_or}
+use Rattle.std.specs.Prelude.{◌≡◌, ℕ, zero, suc, ◌+◌, ◌%◌, ◌≤◌, Bool, cond, ◌&&◌, List, [], ◌∷◌, eqb, ltb, leb, length, get_or, Option, None}
 use Rattle.names.specs.Words.{kind_at, attr_at, end_at}
 use Rattle.grammar.specs.Grammar.{top_place, place_of}
 use Rattle.names.specs.First.{first}
-use Rattle.forest.specs.Faults.{kids_of, end_good, fault_of}
-use Rattle.names.specs.declared.Found.{Found}
-use Rattle.forest.specs.declared.RowFault.{RowFault}
-use Rattle.forest.specs.declared.RowFault.TheVariants.{Fine, Bad}
+use Rattle.forest.specs.Faults.{kids_of, end_good, fault_of, told, or_else}
+use Rattle.forest.specs.declared.Fault.{Fault}
+use Rattle.forest.specs.declared.BadRow.{BadRow}
 
 -- what row j is told where the children are listed and the first of them has position pos: say pos c to the child c; v where j is none of them
 unfoldable pub told_in : (say : ℕ → ℕ → ℕ) (pos : ℕ) (kids : List ℕ) (j v : ℕ) → ℕ
@@ -23,6 +22,10 @@ told_by ws tell r (suc p) j = told_in (tell (told_by ws tell r p p) p) 0 (kids_o
 abbrev pub Fresh : List ℕ → (n : ℕ) → Type 0
 Fresh R n = (n ≤ length R) × ((j : ℕ) → get_or R j 0 ≡ 0)
 
+-- one value for the first child, and one for the later ones
+abbrev pub first_then : (one more : ℕ) → ℕ → ℕ → ℕ
+first_then one more pos c = cond (eqb pos 0) one more
+
 -- one value for every child
 abbrev pub to_all : ℕ → ℕ → ℕ → ℕ
 to_all d pos c = d
@@ -35,7 +38,7 @@ unfoldable pub depth_at : List ℕ → ℕ → ℕ
 depth_at ws i = told_by ws deeper 0 i i
 
 -- "first row: depth over 128", of n rows, over any limit
-unfoldable pub first_deep : List ℕ → (most n : ℕ) → Found
+unfoldable pub first_deep : List ℕ → (most n : ℕ) → Option ℕ
 first_deep ws most n = first (λ i. ltb most (depth_at ws i)) n 0
 
 -- The mark of a row: its place, and 16 more where its `end` is at fault.
@@ -56,14 +59,14 @@ top_mark e n = mark top_place (eqb e n)
 unfoldable pub mark_at : List ℕ → (n i : ℕ) → ℕ
 mark_at ws n i = told_by ws (marks ws) (top_mark (end_at ws 0) n) i i
 
--- the class of row i's lowest fault, 0 for none, by its mark
-unfoldable pub fault_at : List ℕ → (n names i : ℕ) → ℕ
+-- row i's lowest fault, by its mark
+unfoldable pub fault_at : List ℕ → (n names i : ℕ) → Option Fault
 fault_at ws n names i = fault_of ws names (mark_at ws n i % 16) (ltb (mark_at ws n i) 16 && leb (end_at ws i) n) i
 
 -- the lowest row, of the count rows from i on, that has a fault
-unfoldable pub lowest_from : List ℕ → (n names count i : ℕ) → RowFault
-lowest_from ws n names zero i = Fine
-lowest_from ws n names (suc f) i = cond (eqb (fault_at ws n names i) 0) (lowest_from ws n names f (i + 1)) (Bad (fault_at ws n names i) i)
+unfoldable pub lowest_from : List ℕ → (n names count i : ℕ) → Option BadRow
+lowest_from ws n names zero i = None
+lowest_from ws n names (suc f) i = or_else (told (fault_at ws n names i) i) (lowest_from ws n names f (i + 1))
 
-unfoldable pub lowest_fault : List ℕ → (n names : ℕ) → RowFault
+unfoldable pub lowest_fault : List ℕ → (n names : ℕ) → Option BadRow
 lowest_fault ws n names = lowest_from ws n names n 0

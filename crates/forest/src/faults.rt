@@ -1,27 +1,33 @@
-// The first row that breaks the grammar, with the class of its lowest fault, for the refusals 21 to
-// 25. The rows are visited in order with an array of marks, one a row: its place, and 16 more where
-// its end is at fault. Each row marks its children, which it finds by hopping over their ends.
-ghost use Rattle.std.specs.Prelude.{◌≡◌, ℕ, ◌+◌, ◌*◌, ◌<◌, ◌≤◌, length, get_or};
+// The first row that breaks the grammar, with its lowest fault, for the refusals 21 to 25. The rows are
+// visited in order with an array of marks, one a row: its place, and 16 more where its end is at fault.
+// Each row marks its children, which it finds by hopping over their ends.
+ghost use Rattle.std.specs.Prelude.{◌≡◌, ℕ, ◌*◌, ◌<◌, ◌≤◌, length, get_or, None};
 ghost use Rattle.names.specs.Words.{words};
+ghost use Rattle.grammar.specs.Codes.{kind_number, place_number};
 ghost use Rattle.forest.specs.Faults.{kids, early_fault, late_fault, first_fault};
 ghost use Rattle.forest.specs.Told.{told_in, Fresh, says, top_mark, lowest_fault};
 
-use crate::RowFault;
-use grammar::{attr_ok, count_ok, fits_in, kind_ok, name_ok, place_of};
+use crate::{BadRow, Fault};
+use grammar::kind::Kind;
+use grammar::place::Place;
+use grammar::{attr_ok, count_ok, fits_in, name_ok, place_of};
 use names::words::cell;
 
-// Marks the children of a row of kind k, attr a, whose subtree ends at e and whose first child is
+// A mark is a byte, since a table has one for each row: this much more where the end is at fault.
+const END_AT_FAULT: u8 = 16;
+
+// Marks the children of a row of that kind and attr, whose subtree ends at e and whose first child is
 // at c0; how many there are.
-fn mark_children(s: &[u8], marks: &mut [u8], k: usize, a: usize, c0: usize, e: usize) -> usize
+fn mark_children(s: &[u8], marks: &mut [u8], kind: Kind, a: usize, c0: usize, e: usize) -> usize
     requires { (e ≤ 16384) × ((16 * e ≤ length s.now) × (e ≤ length marks.old)) }
     ensures { (result ≡ length (kids (words s.now) e c0 e))
-        × ((j : ℕ) → get_or marks.new j 0 ≡ told_in (says (words s.now) k a e) 0 (kids (words s.now) e c0 e) j (get_or marks.old j 0)) }
+        × ((j : ℕ) → get_or marks.new j 0 ≡ told_in (says (words s.now) (kind_number kind) a e) 0 (kids (words s.now) e c0 e) j (get_or marks.old j 0)) }
 {
     if e <= c0 {
         return 0;
     }
-    let later = place_of(k, a, 1);
-    let mut place = place_of(k, a, 0);
+    let later = place_of(kind, a, 1).number();
+    let mut place = place_of(kind, a, 0).number();
     let mut c = c0;
     let mut pos: usize = 0;
     while c < e {
@@ -32,125 +38,106 @@ fn mark_children(s: &[u8], marks: &mut [u8], k: usize, a: usize, c0: usize, e: u
             pos += 1;
             c = x;
         } else {
-            marks[c] = place + 16;
+            marks[c] = place + END_AT_FAULT;
             return pos + 1;
         }
     }
     pos
 }
 
-// Classes 1, 2 and 3.
-fn early_fault(place: u8, ends: bool, k: usize, a: usize) -> u32
-    ensures { result ≡ early_fault place ends k a 0 }
+// The first three faults.
+#[tactic(auto, unfolding(crate::specs::Faults::early_fault))]
+fn early_fault(place: Place, ends: bool, kind: Kind, a: usize) -> Option<Fault>
+    ensures { result ≡ early_fault (place_number place) ends (kind_number kind) a None }
 {
-    if !kind_ok(k) {
-        return 1;
+    if kind == Kind::Unlisted {
+        return Some(Fault::Kind);
     }
-    if !attr_ok(k, a, place) {
-        return 2;
+    if !attr_ok(kind, a, place) {
+        return Some(Fault::Attr);
     }
     if !ends {
-        return 3;
+        return Some(Fault::End);
     }
-    0
+    None
 }
 
-// Classes 4 and 5.
-fn late_fault(names: usize, place: u8, k: usize, a: usize, name: usize, count: usize) -> u32
-    requires { k < 29 }
-    ensures { result ≡ late_fault names place k a name count }
+// The last two.
+#[tactic(auto, unfolding(crate::specs::Faults::late_fault))]
+fn late_fault(
+    names: usize,
+    place: Place,
+    kind: Kind,
+    a: usize,
+    name: usize,
+    count: usize,
+) -> Option<Fault>
+    ensures { result ≡ late_fault names (place_number place) (kind_number kind) a name count }
 {
-    if !(fits_in(place, k) & count_ok(k, a, count)) {
-        return 4;
+    if !(fits_in(place, kind) & count_ok(kind, a, count)) {
+        return Some(Fault::Place);
     }
-    if !name_ok(k, a, name, names) {
-        return 5;
+    if !name_ok(kind, a, name, names) {
+        return Some(Fault::Name);
     }
-    0
+    None
 }
 
 // The mark of row 0, which ends at the row count.
 fn top_mark(end: usize, n: usize) -> u8
     ensures { result ≡ top_mark end n }
 {
+    let top = Place::Top.number();
     if end == n {
-        return 1;
+        return top;
     }
-    17
+    top + END_AT_FAULT
 }
 
 // The lowest row that has a fault. The array has room for n marks and is all 0.
-fn lowest_fault(s: &[u8], n: usize, names: usize, marks: &mut [u8]) -> RowFault
+fn lowest_fault(s: &[u8], n: usize, names: usize, marks: &mut [u8]) -> Option<BadRow>
     requires n_nonzero { (0 < n) × ((n ≤ 16384) × (16 * n ≤ length s.now)) }
     requires fresh { Fresh marks.old n }
     ensures { result ≡ lowest_fault (words s.now) n names }
 {
     marks[0] = top_mark(cell(s, 3), n);
-    let mut i: usize = 0;
-    while i < n {
-        let k = cell(s, 4 * i);
-        let a = cell(s, 4 * i + 1);
-        let name = cell(s, 4 * i + 2);
-        let e = cell(s, 4 * i + 3);
-        let m = marks[i];
-        let place = m % 16;
-        let early = early_fault(place, (m < 16) & (e <= n), k, a);
-        if early != 0 {
-            return RowFault::Bad {
-                class: early,
-                row: i,
-            };
+    for row in 0..n {
+        let kind = Kind::from(cell(s, 4 * row));
+        let a = cell(s, 4 * row + 1);
+        let name = cell(s, 4 * row + 2);
+        let e = cell(s, 4 * row + 3);
+        let mark = marks[row];
+        let place = Place::from(mark % 16);
+        if let Some(fault) = early_fault(place, (mark < END_AT_FAULT) & (e <= n), kind, a) {
+            return Some(BadRow { fault, row });
         }
-        let count = mark_children(s, marks, k, a, i + 1, e);
-        let late = late_fault(names, place, k, a, name, count);
-        if late != 0 {
-            return RowFault::Bad {
-                class: late,
-                row: i,
-            };
+        let count = mark_children(s, marks, kind, a, row + 1, e);
+        if let Some(fault) = late_fault(names, place, kind, a, name, count) {
+            return Some(BadRow { fault, row });
         }
-        i += 1;
     }
-    RowFault::Fine
+    None
 }
 
-// The lowest fault of a table of at most 64 rows,
-fn small(s: &[u8], n: usize, names: usize) -> RowFault
-    requires { (0 < n) × ((n ≤ 64) × (16 * n ≤ length s.now)) }
+// The same of a table of at most N rows.
+fn fault_of<const N: usize>(s: &[u8], n: usize, names: usize) -> Option<BadRow>
+    requires size { N ≤ 16384 }
+    requires room { (0 < n) × ((n ≤ N) × (16 * n ≤ length s.now)) }
     ensures { result ≡ lowest_fault (words s.now) n names }
 {
-    let mut marks = [0u8; 64];
-    lowest_fault(s, n, names, &mut marks)
-}
-
-// of at most 1,024,
-fn middle(s: &[u8], n: usize, names: usize) -> RowFault
-    requires { (0 < n) × ((n ≤ 1024) × (16 * n ≤ length s.now)) }
-    ensures { result ≡ lowest_fault (words s.now) n names }
-{
-    let mut marks = [0u8; 1024];
-    lowest_fault(s, n, names, &mut marks)
-}
-
-// and of at most 16,384.
-fn large(s: &[u8], n: usize, names: usize) -> RowFault
-    requires { (0 < n) × ((n ≤ 16384) × (16 * n ≤ length s.now)) }
-    ensures { result ≡ lowest_fault (words s.now) n names }
-{
-    let mut marks = [0u8; 16384];
+    let mut marks = [0u8; N];
     lowest_fault(s, n, names, &mut marks)
 }
 
 // The first bad row, with an array that is as large as the table needs.
-pub fn first_fault(s: &[u8], n: usize, names: usize) -> RowFault
+#[tactic(auto, using(crate::proofs::Descent::by_lowest))]
+pub fn first_fault(s: &[u8], n: usize, names: usize) -> Option<BadRow>
     requires { (0 < n) × ((n ≤ 16384) × (16 * n ≤ length s.now)) }
     ensures { result ≡ first_fault (words s.now) n names }
 {
-    if n <= 64 {
-        return small(s, n, names);
+    match n {
+        0..=64 => fault_of::<64>(s, n, names),
+        65..=1024 => fault_of::<1024>(s, n, names),
+        _ => fault_of::<16384>(s, n, names),
     }
-    if n <= 1024 {
-        return middle(s, n, names);
-    }
-    large(s, n, names)
 }

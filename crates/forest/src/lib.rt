@@ -4,11 +4,41 @@
 
 pub mod depth;
 pub mod faults;
+pub mod told;
 
-// The lowest row that has a fault, with its class: 1 kind, 2 attr, 3 end, 4 place or number of
-// children, 5 name.
-#[derive(Clone, Copy)]
-pub enum RowFault {
-    Fine,
-    Bad { class: u32, row: usize },
+ghost use Rattle.std.specs.Prelude.{◌≡◌};
+ghost use Rattle.forest.specs.Faults.{fault_number};
+
+// What is wrong with a bad row: a kind that is not in the list, an attr that the kind or its place
+// does not allow, an `end` at fault, a place or a number of children that is not allowed, a name
+// outside its rule. Of several the first of this list is told.
+#[derive(Clone, Copy, Debug, PartialEq, Eq)]
+pub enum Fault {
+    Kind,
+    Attr,
+    End,
+    Place,
+    Name,
+}
+
+impl Fault {
+    // The request's number of it.
+    pub fn number(self) -> u32
+        ensures { result ≡ fault_number self }
+    {
+        match self {
+            Fault::Kind => 21,
+            Fault::Attr => 22,
+            Fault::End => 23,
+            Fault::Place => 24,
+            Fault::Name => 25,
+        }
+    }
+}
+
+// A row that breaks the grammar, and its lowest fault.
+#[derive(Clone, Copy, Debug, PartialEq, Eq)]
+pub struct BadRow {
+    pub fault: Fault,
+    pub row: usize,
 }

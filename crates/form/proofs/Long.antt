@@ -12,11 +12,9 @@ use Rattle.steps.specs.Mode.{Switches}
 use Rattle.fields.specs.Headers.{switch_header, name_header, row_header}
 use Rattle.fields.specs.Fields.{push, split, lines, fields, row_of, same_bytes, switches_ok}
 use Rattle.fields.specs.declared.Row.{Row}
-use Rattle.fields.specs.declared.Row.TheVariants.{Words, Fault}
+use Rattle.std.proofs.Common.{Option, None, Some, Ok, Err}
 use Rattle.fields.proofs.Splitting.{same_lengths, switches-short}
-use Rattle.parser.specs.Parse.{Read.sheet, Read.faulty, is_row, rows_from, words_from, has_rows, names_in, after_names, with_rows, switches_in, from_fourth, from_third, from_second, from_first}
-use Rattle.parser.specs.declared.Lines.{Lines}
-use Rattle.parser.specs.declared.Lines.TheVariants.{Count, Wrong}
+use Rattle.parser.specs.Parse.{Read.sheet, Read.faulty, Lines, wrong, is_row, rows_from, words_from, has_rows, names_in, after_names, with_rows, switches_in, from_fourth, from_third, from_second, from_first}
 use Rattle.form.specs.Form.{spelled}
 use Rattle.form.proofs.Short.{total, row_short}
 
@@ -51,16 +49,16 @@ switches-long l h = go (eqb (length l) 5) refl
     go false q = absurd (false≢true (switches-short l (eqb-false _ _ q) ∙ h))
 
 -- m rows in all have at most 44 bytes each
-rows_total : (ls : List (List ℕ)) (n k m : ℕ) → rows_from n k ls ≡ Count m → n ≤ 1024 → (44 * n + total ls ≤ 44 * m) × (m ≤ 1024)
+rows_total : (ls : List (List ℕ)) (n k m : ℕ) → rows_from n k ls ≡ Ok m → n ≤ 1024 → (44 * n + total ls ≤ 44 * m) × (m ≤ 1024)
 unfolding total rows_from
 rows_total [] n k m h g = let e : n ≡ m = cc in (omega arith, omega arith)
 rows_total (l ∷ ls) n k m h g = go (row_of (fields l)) refl (leb 1024 n) refl (rows_total ls (n + 1) k m) h
   where
-    go : (r : Row) → row_of (fields l) ≡ r → (b : Bool) → leb 1024 n ≡ b → (rows_from (n + 1) k ls ≡ Count m → n + 1 ≤ 1024 → (44 * (n + 1) + total ls ≤ 44 * m) × (m ≤ 1024))
-        → is_row r (cond b (Wrong (k + n)) (rows_from (n + 1) k ls)) (Wrong (k + n)) ≡ Count m → (44 * n + (suc (length l) + total ls) ≤ 44 * m) × (m ≤ 1024)
-    go Fault p b q ih h = absurd (let z : ◌≡◌ {A = ℕ} 0 1 = cc in omega arith)
-    go (Words a x c d) p true q ih h = absurd (let z : ◌≡◌ {A = ℕ} 0 1 = cc in omega arith)
-    go (Words a x c d) p false q ih h =
+    go : (r : Option Row) → row_of (fields l) ≡ r → (b : Bool) → leb 1024 n ≡ b → (rows_from (n + 1) k ls ≡ Ok m → n + 1 ≤ 1024 → (44 * (n + 1) + total ls ≤ 44 * m) × (m ≤ 1024))
+        → is_row {A = Lines} r (cond b (wrong (k + n)) (rows_from (n + 1) k ls)) (wrong (k + n)) ≡ Ok m → (44 * n + (suc (length l) + total ls) ≤ 44 * m) × (m ≤ 1024)
+    go None p b q ih h = absurd (let z : ◌≡◌ {A = ℕ} 0 1 = cc in omega arith)
+    go (Some r) p true q ih h = absurd (let z : ◌≡◌ {A = ℕ} 0 1 = cc in omega arith)
+    go (Some r) p false q ih h =
         let low : n < 1024 = leb-false _ _ q in
         let rest = ih h (omega arith) in
         (omega (arith, rest.0, row_short l (ap spelled p)), rest.1)
@@ -91,8 +89,8 @@ module _ (w : Switches) (names : List (List ℕ)) (ws : List ℕ) where
       go : (b : Bool) → has_rows ls ≡ b → (r : Lines) → rows_from 0 (5 + length (names_in ls)) (after_names ls) ≡ r
           → cond b (with_rows v (names_in ls) (words_from 0 (after_names ls)) r) (faulty (4 + length ls)) ≡ sheet w names ws → total ls ≤ 45075 + named
       go false p r q h = no_sheet h
-      go true p (Wrong l) q h = no_sheet h
-      go true p (Count m) q h =
+      go true p (Err e) q h = no_sheet h
+      go true p (Ok m) q h =
           let e : names_in ls ≡ names = cc in
           let a = names_total ls p in
           let b = rows_total (after_names ls) 0 _ m q (omega arith) in

@@ -10,8 +10,7 @@ use lib.Dec.{ltb, leb, eqb}
 use borrow.Author.Tests.{ltb-false, leb-true, leb-false, eqb-true, eqb-false, ne_eqb}
 use Rattle.fields.specs.Headers.{switch_header, name_header, row_header}
 use Rattle.fields.specs.Fields.{push, split, fields, digits_of, number, row_words, row_of, same_bytes, switches_ok}
-use Rattle.fields.specs.declared.Number.{Number}
-use Rattle.fields.specs.declared.Number.TheVariants.{Value, Bad}
+use Rattle.std.proofs.Common.{Option, None, Some}
 use Rattle.fields.proofs.Splitting.{same_lengths, switches-short}
 use Rattle.form.specs.Form.{Stand, Stand.stand, spelled, wanted, ends}
 
@@ -25,19 +24,19 @@ unfolding shifted
 shifted-more zero a b h = h
 shifted-more (suc f) a b h = shifted-more f (a * 10) (b * 10) (omega arith)
 
-bad : {A : Type 0} {w : ℕ} → Bad ≡ Value w → A
+bad : {A : Type 0} {w : ℕ} → None ≡ Some w → A
 bad h = absurd (let z : ◌≡◌ {A = ℕ} 0 1 = cc in omega arith)
 
 -- behind v there are fewer than f digits, where v with f zeros is no u32
-few : (s : List ℕ) (f v w : ℕ) → digits_of v s ≡ Value w → v ≤ 4294967295 → 4294967295 < shifted f v → length s < f
+few : (s : List ℕ) (f v w : ℕ) → digits_of v s ≡ Some w → v ≤ 4294967295 → 4294967295 < shifted f v → length s < f
 unfolding digits_of shifted
 few [] zero v w h l g = absurd (omega arith)
 few [] (suc f) v w h l g = omega arith
 few (c ∷ s) zero v w h l g = absurd (omega arith)
 few (c ∷ s) (suc f) v w h l g = go (ltb c 48) (ltb 57 c) (ltb 4294967295 (v * 10 + (c - 48))) refl h (few s f (v * 10 + (c - 48)) w)
   where
-    go : (a b d : Bool) → ltb 4294967295 (v * 10 + (c - 48)) ≡ d → cond a Bad (cond b Bad (cond d Bad (digits_of (v * 10 + (c - 48)) s))) ≡ Value w
-        → (digits_of (v * 10 + (c - 48)) s ≡ Value w → v * 10 + (c - 48) ≤ 4294967295 → 4294967295 < shifted f (v * 10 + (c - 48)) → length s < f) → suc (length s) < suc f
+    go : (a b d : Bool) → ltb 4294967295 (v * 10 + (c - 48)) ≡ d → cond a None (cond b None (cond d None (digits_of (v * 10 + (c - 48)) s))) ≡ Some w
+        → (digits_of (v * 10 + (c - 48)) s ≡ Some w → v * 10 + (c - 48) ≤ 4294967295 → 4294967295 < shifted f (v * 10 + (c - 48)) → length s < f) → suc (length s) < suc f
     go true b d q e ih = bad e
     go false true d q e ih = bad e
     go false false true q e ih = bad e
@@ -46,14 +45,14 @@ few (c ∷ s) (suc f) v w h l g = go (ltb c 48) (ltb 57 c) (ltb 4294967295 (v * 
         omega (arith, ih e (ltb-false _ _ q) (omega arith))
 
 -- "decimal u32": at most ten digits
-number_short : (x : List ℕ) (w : ℕ) → number x ≡ Value w → length x ≤ 10
+number_short : (x : List ℕ) (w : ℕ) → number x ≡ Some w → length x ≤ 10
 unfolding number digits_of shifted
 number_short [] w h = bad h
 number_short (c ∷ []) w h = omega arith
 number_short (c ∷ d ∷ s) w h = go (eqb c 48) refl (ltb c 48) refl (ltb 57 c) (ltb 4294967295 (0 * 10 + (c - 48))) refl h
   where
     go : (z : Bool) → eqb c 48 ≡ z → (a : Bool) → ltb c 48 ≡ a → (b e : Bool) → ltb 4294967295 (0 * 10 + (c - 48)) ≡ e
-        → cond z Bad (cond a Bad (cond b Bad (cond e Bad (digits_of (0 * 10 + (c - 48)) (d ∷ s))))) ≡ Value w → suc (suc (length s)) ≤ 10
+        → cond z None (cond a None (cond b None (cond e None (digits_of (0 * 10 + (c - 48)) (d ∷ s))))) ≡ Some w → suc (suc (length s)) ≤ 10
     go true p a q b e r h = bad h
     go false p true q b e r h = bad h
     go false p false q true e r h = bad h
@@ -100,12 +99,12 @@ four-short : (a b c d : List ℕ) (n : ℕ) → total (a ∷ b ∷ c ∷ d ∷ [
 unfolding total
 four-short a b c d n t h = go (number a) refl (number b) refl (number c) refl (number d) refl h
   where
-    go : (x : Number) → number a ≡ x → (y : Number) → number b ≡ y → (z : Number) → number c ≡ z → (u : Number) → number d ≡ u → spelled (row_words x y z u) ≡ true → n ≤ 43
-    go Bad p y q z r u s h = fault h
-    go (Value i) p Bad q z r u s h = fault h
-    go (Value i) p (Value j) q Bad r u s h = fault h
-    go (Value i) p (Value j) q (Value k) r Bad s h = fault h
-    go (Value i) p (Value j) q (Value k) r (Value l) s h = omega (arith, number_short a i p, number_short b j q, number_short c k r, number_short d l s, t)
+    go : (x : Option ℕ) → number a ≡ x → (y : Option ℕ) → number b ≡ y → (z : Option ℕ) → number c ≡ z → (u : Option ℕ) → number d ≡ u → spelled (row_words x y z u) ≡ true → n ≤ 43
+    go None p y q z r u s h = fault h
+    go (Some i) p None q z r u s h = fault h
+    go (Some i) p (Some j) q None r u s h = fault h
+    go (Some i) p (Some j) q (Some k) r None s h = fault h
+    go (Some i) p (Some j) q (Some k) r (Some l) s h = omega (arith, number_short a i p, number_short b j q, number_short c k r, number_short d l s, t)
 
 some-short : (fs : List (List ℕ)) (n : ℕ) → total fs ≡ suc n → spelled (row_of fs) ≡ true → n ≤ 43
 unfolding row_of

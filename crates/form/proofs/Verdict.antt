@@ -12,12 +12,10 @@ use Rattle.steps.specs.Mode.{Switches}
 use Rattle.fields.specs.Headers.{switch_header, name_header, row_header}
 use Rattle.fields.specs.Fields.{lines, fields, row_of, same_bytes, switches_ok}
 use Rattle.fields.specs.declared.Row.{Row}
-use Rattle.fields.specs.declared.Row.TheVariants.{Words, Fault}
-use Rattle.parser.specs.Parse.{Read.faulty, is_row, rows_from, has_rows, names_in, after_names, with_rows, switches_in, words_from, from_fourth, from_third, from_second, from_first}
-use Rattle.parser.specs.declared.Lines.{Lines}
-use Rattle.parser.specs.declared.Lines.TheVariants.{Count, Wrong}
+use Rattle.std.proofs.Common.{Option, None, Some, Ok, Err}
+use Rattle.parser.specs.Parse.{Read.faulty, Lines, wrong, is_row, rows_from, has_rows, names_in, after_names, with_rows, switches_in, words_from, from_fourth, from_third, from_second, from_first}
 use Rattle.form.specs.declared.Form.{Form}
-use Rattle.form.specs.Form.{Stand.stand, spelled, wanted, ends, over, told, fault_in, kept, step, scan, start, close, settled, point_of, Fits}
+use Rattle.form.specs.Form.{Stand.stand, spelled, wanted, ends, over, told, fault_in, kept, step, scan, start, close, settled, part_number, point_of}
 use Rattle.form.proofs.Short.{long-ends}
 use Rattle.form.proofs.Scanning.{text_lines}
 
@@ -32,8 +30,8 @@ unfolding told
 told-fault k n ls = ap told (stays k n ls)
 
 abbrev wrong_in : Lines → ℕ
-wrong_in (Count n) = 0
-wrong_in (Wrong l) = l
+wrong_in (Ok n) = 0
+wrong_in (Err e) = e.line
 
 -- the rows
 told_rows : (ls : List (List ℕ)) (n k : ℕ) → told (over (stand 5 (k + n) n) ls) ≡ wrong_in (rows_from n k ls)
@@ -41,11 +39,11 @@ unfolding over ends told rows_from
 told_rows [] n k = refl
 told_rows (l ∷ ls) n k = go (row_of (fields l)) (leb 1024 n) (told_rows ls (n + 1) k)
   where
-    go : (r : Row) (b : Bool) → told (over (stand 5 (k + (n + 1)) (n + 1)) ls) ≡ wrong_in (rows_from (n + 1) k ls)
-        → told (over (cond (spelled r) (cond b (stand 0 (k + n) n) (stand 5 (k + n + 1) (n + 1))) (stand 0 (k + n) n)) ls) ≡ wrong_in (is_row r (cond b (Wrong (k + n)) (rows_from (n + 1) k ls)) (Wrong (k + n)))
-    go Fault b ih = told-fault (k + n) n ls
-    go (Words a x c d) true ih = told-fault (k + n) n ls
-    go (Words a x c d) false ih = let e : k + n + 1 ≡ k + (n + 1) = omega arith in rw e ih
+    go : (r : Option Row) (b : Bool) → told (over (stand 5 (k + (n + 1)) (n + 1)) ls) ≡ wrong_in (rows_from (n + 1) k ls)
+        → told (over (cond (spelled r) (cond b (stand 0 (k + n) n) (stand 5 (k + n + 1) (n + 1))) (stand 0 (k + n) n)) ls) ≡ wrong_in (is_row {A = Lines} r (cond b (wrong (k + n)) (rows_from (n + 1) k ls)) (wrong (k + n)))
+    go None b ih = told-fault (k + n) n ls
+    go (Some r) true ih = told-fault (k + n) n ls
+    go (Some r) false ih = let e : k + n + 1 ≡ k + (n + 1) = omega arith in rw e ih
 
 -- the names
 told_names : (ls : List (List ℕ)) (k : ℕ) → told (over (stand 4 k 0) ls) ≡ cond (has_rows ls) (wrong_in (rows_from 0 (k + 1 + length (names_in ls)) (after_names ls))) (k + length ls)
@@ -70,8 +68,8 @@ unfolding from_fourth
 told_fourth w ls = told_names ls 4 ∙ go (has_rows ls) (rows_from 0 (5 + length (names_in ls)) (after_names ls))
   where
     go : (b : Bool) (r : Lines) → cond b (wrong_in r) (4 + length ls) ≡ fault_in (cond b (with_rows w (names_in ls) (words_from 0 (after_names ls)) r) (faulty (4 + length ls)))
-    go true (Count n) = refl
-    go true (Wrong l) = refl
+    go true (Ok n) = refl
+    go true (Err e) = refl
     go false r = refl
 
 told_third : (w : Switches) (ls : List (List ℕ)) → told (over (stand 3 3 0) ls) ≡ fault_in (from_third w ls)
@@ -131,14 +129,16 @@ long-at (c ∷ s) p k n cur h q = go (eqb c 10) (long-at s p k n cur h q)
     go true ih = rw (long-ends p k n cur h q) (faulty-at s k n [])
     go false ih = rw (le-ltb (length cur) 44 h) ih
 
-pub settled-stays : (f : Form) (front s : List ℕ) → Fits f front → settled f.part f.count ≡ true → told (close (scan (point_of f front) s)) ≡ f.line
+pub settled-stays : (f : Form) (s : List ℕ) → settled (part_number f.part) f.count ≡ true → told (close (scan (point_of f) s)) ≡ f.line
 unfolding settled
-settled-stays f front s w h = go (eqb f.part 0) refl (eqb f.part 4) refl h
+settled-stays f s h = go (eqb p 0) refl (eqb p 4) refl h
   where
-    go : (a : Bool) → eqb f.part 0 ≡ a → (b : Bool) → eqb f.part 4 ≡ b → cond a true (cond b false (leb 44 f.count)) ≡ true
-        → told (close (scan (point_of f front) s)) ≡ f.line
-    go true e b d h = rw (eqb-true f.part 0 e) (faulty-at s f.line f.rows (take f.count front))
+    p : ℕ
+    p = part_number f.part
+
+    go : (a : Bool) → eqb p 0 ≡ a → (b : Bool) → eqb p 4 ≡ b → cond a true (cond b false (leb 44 f.count)) ≡ true → told (close (scan (point_of f) s)) ≡ f.line
+    go true e b d h = rw (eqb-true p 0 e) (faulty-at s f.line f.rows (take f.count f.front))
     go false e true d h = absurd (false≢true h)
     go false e false d h =
-        let t = length-take-le f.count front (omega (arith, w.low, w.room)) in
-        long-at s f.part f.line f.rows (take f.count front) (omega (arith, leb-true 44 f.count h)) (eqb-false f.part 4 d)
+        let t = length-take-le f.count f.front (omega (arith, f.low, f.room)) in
+        long-at s p f.line f.rows (take f.count f.front) (omega (arith, leb-true 44 f.count h)) (eqb-false p 4 d)

@@ -1,10 +1,11 @@
 -- Whether a text of any length is a sheet, line by line and byte by byte: "first faulty or missing line, from 1". Assumes nothing.
-use Rattle.std.specs.Prelude.{◌≡◌, Bool, true, false, cond, List, [], ◌∷◌, ◌++◌, ℕ, ◌+◌, ◌≤◌, length, take, eqb, leb, ltb}
+use Rattle.std.specs.Prelude.{Bool, true, false, cond, List, [], ◌∷◌, ◌++◌, ℕ, ◌+◌, length, take, eqb, leb, ltb, Option, None, Some}
 use Rattle.fields.specs.Headers.{switch_header, name_header, row_header}
 use Rattle.fields.specs.Fields.{fields, row_of, same_bytes, switches_ok}
 use Rattle.fields.specs.declared.Row.{Row}
-use Rattle.fields.specs.declared.Row.TheVariants.{Words, Fault}
 use Rattle.parser.specs.Parse.{Read, Read.sheet, Read.faulty}
+use Rattle.form.specs.declared.Part.{Part}
+use Rattle.form.specs.declared.Part.TheVariants.{Faulty, SwitchHeader, Switches, NameHeader, Names, Rows}
 use Rattle.form.specs.declared.Form.{Form}
 
 -- the line that comes next, from 1, and what it is to be: 1 the header of the switches, 2 the switches, 3 the header of the names, 4 a name or the header of the
@@ -13,9 +14,9 @@ pub data Stand : Type 0 where
   stand : (part line rows : ℕ) → Stand
 
 -- whether a line spells a row
-abbrev pub spelled : Row → Bool
-spelled (Words a b c d) = true
-spelled Fault = false
+abbrev pub spelled : Option Row → Bool
+spelled (Some r) = true
+spelled None = false
 
 -- a row's line, or one that is none, with n rows before it; "or over 1,024 rows"
 abbrev pub after_row : Bool → (k n : ℕ) → Stand
@@ -74,22 +75,24 @@ close x = cond (eqb (length x.cur) 0) x.at (ends x.at x.cur)
 unfoldable pub settled : (part count : ℕ) → Bool
 settled p c = cond (eqb p 0) true (cond (eqb p 4) false (leb 44 c))
 
--- as the code has it: the line's first bytes stand at the front of some that are lent
+-- as the code has it: what the line is to be, and its first bytes
+abbrev pub part_number : Part → ℕ
+part_number Faulty = 0
+part_number SwitchHeader = 1
+part_number Switches = 2
+part_number NameHeader = 3
+part_number Names = 4
+part_number Rows = 5
+
+abbrev pub faulty_unless : Bool → Part → Part
+faulty_unless b p = cond b p Faulty
+
+-- the next line is one further on unless this one is faulty, and a row is counted
+abbrev pub moved : (p q k n : ℕ) → Stand
+moved p q k n = cond (eqb q 0) (stand 0 k n) (stand q (k + 1) (cond (eqb p 5) (n + 1) n))
+
 abbrev pub stand_of : Form → Stand
-stand_of f = stand f.part f.line f.rows
+stand_of f = stand (part_number f.part) f.line f.rows
 
-abbrev pub point_of : Form → (front : List ℕ) → Point
-point_of f front = record { at = stand_of f; cur = take f.count front }
-
--- what the functions ask and leave: one of the parts, and room for the first bytes of a line
-pub record Fits (f : Form) (front : List ℕ) : Type 0 where
-  pub few : f.part ≤ 5
-  pub low : f.count ≤ 44
-  pub room : 44 ≤ length front
-
--- the line ended
-pub record Ended (f : Form) (front : List ℕ) (r : Form) : Type 0 where
-  pub stands : stand_of r ≡ ends (stand_of f) (take f.count front)
-  pub few : r.part ≤ 5
-  pub empty : r.count ≡ 0
-  pub near : r.line ≤ f.line + 1
+abbrev pub point_of : Form → Point
+point_of f = record { at = stand_of f; cur = take f.count f.front }

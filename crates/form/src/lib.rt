@@ -3,11 +3,10 @@
 
 #![tactic(auto)]
 
-ghost use Rattle.std.specs.Prelude.{◌≡◌, ℕ, ◌+◌, ◌≤◌, ◌<◌, ◌^◌, length, take};
-ghost use Rattle.fields.specs.Fields.{fields, row_of};
-ghost use Rattle.form.specs.Form.{spelled, wanted, told, settled, step, scan, close, stand_of, point_of, Fits, Ended};
+ghost use Rattle.std.specs.Prelude.{◌≡◌, ◌≤◌, ◌<◌, length};
 
-use fields::{Row, is_name_header, is_row_header, is_switch_header, row_at, switches_at};
+use fields::{is_name_header, is_row_header, is_switch_header, read_row, read_switches};
+use parser::FaultyLine;
 
 const NEWLINE: u8 = 10;
 
@@ -17,163 +16,153 @@ const MOST_ROWS: usize = 1024;
 // How many bytes of a line are kept: one more than a row's line can have.
 const KEPT: usize = 44;
 
-// Which line comes next, from 1, what it is to be, and how many rows there have been; and how many of its
-// first bytes are kept. Part 1 is the header of the switches, 2 the switches, 3 the header of the names, 4 a
-// name or the header of the rows, 5 a row; 0 says that the line is faulty.
+// What the next line is to be; or it is faulty.
+#[derive(Clone, Copy, PartialEq, Eq, Debug)]
+pub enum Part {
+    Faulty,
+    SwitchHeader,
+    Switches,
+    NameHeader,
+    // A name, or the header of the rows.
+    Names,
+    Rows,
+}
+
+impl Part {
+    ghost use Rattle.std.specs.Prelude.{ℕ, cond};
+    ghost use Rattle.form.specs.Form.{Stand.stand, ends, part_number, moved, faulty_unless};
+
+    fn only_if(self, good: bool) -> Part
+        ensures { result ≡ faulty_unless good self }
+    {
+        if good { self } else { Part::Faulty }
+    }
+
+    // What comes after a line, with so many rows before it.
+    fn after(self, line: &[u8], rows: usize) -> Part
+        ensures ends { (k : ℕ) → moved (part_number self) (part_number result) k rows ≡ ends (stand (part_number self) k rows) line.now }
+        ensures few { 1024 ≤ rows → part_number self ≡ 5 → part_number result ≡ 0 }
+    {
+        match self {
+            Part::Faulty => Part::Faulty,
+            Part::SwitchHeader => Part::Switches.only_if(is_switch_header(line)),
+            Part::Switches => Part::NameHeader.only_if(read_switches(line).is_some()),
+            Part::NameHeader => Part::Names.only_if(is_name_header(line)),
+            Part::Names => {
+                if is_row_header(line) {
+                    Part::Rows
+                } else {
+                    Part::Names
+                }
+            }
+            Part::Rows => Part::Rows.only_if((rows < MOST_ROWS) & read_row(line).is_some()),
+        }
+    }
+}
+
+// Which line comes next, from 1, what it is to be, and how many rows there have been; and its first
+// bytes, as far as they are kept.
 #[derive(Clone, Copy)]
 pub struct Form {
-    pub part: usize,
+    pub part: Part,
     pub line: usize,
     pub rows: usize,
     pub count: usize,
+    pub front: [u8; KEPT],
+    pub ghost begun: { 0 < line },
+    pub ghost low: { count ≤ 44 },
+    pub ghost room: { length front ≡ 44 },
 }
 
-fn standing(part: usize, line: usize, rows: usize) -> Form
-    ensures { (result.part ≡ part) × ((result.line ≡ line) × ((result.rows ≡ rows) × (result.count ≡ 0))) }
-{
-    Form {
-        part,
-        line,
-        rows,
-        count: 0,
-    }
-}
+impl Form {
+    ghost use Rattle.std.specs.Prelude.{◌+◌, ◌^◌, take, MatchResult};
+    ghost use Rattle.form.specs.Form.{part_number, ends, told, settled, step, scan, start, close, stand_of, point_of};
 
-// Before the first byte.
-pub fn begin() -> Form
-    ensures { (result.part ≡ 1) × ((result.line ≡ 1) × ((result.rows ≡ 0) × (result.count ≡ 0))) }
-{
-    standing(1, 1, 0)
-}
-
-// Whether a line is the one that is wanted in that part.
-fn is_wanted(part: usize, front: &[u8], count: usize) -> bool
-    requires { count ≤ length front.now }
-    ensures { result ≡ wanted part (take count front.now) }
-{
-    if part == 1 {
-        return is_switch_header(front, 0, count);
-    }
-    if part == 2 {
-        return switches_at(front, 0, count);
-    }
-    if part == 3 {
-        return is_name_header(front, 0, count);
-    }
-    is_row_header(front, 0, count)
-}
-
-// Whether a line is a row.
-fn is_row(front: &[u8], count: usize) -> bool
-    requires { count ≤ length front.now }
-    ensures { result ≡ spelled (row_of (fields (take count front.now))) }
-{
-    let row = row_at(front, 0, count);
-    let Row::Words(kind, attr, name, end) = row else {
-        return false;
-    };
-    true
-}
-
-// The line ends whose first bytes are kept.
-fn end_line(form: Form, front: &[u8]) -> Form
-    requires { Fits form front.now × (form.line < 2 ^ 62) }
-    ensures { Ended form front.now result }
-{
-    let part = form.part;
-    let line = form.line;
-    let rows = form.rows;
-    let count = form.count;
-    if part == 0 {
-        return standing(part, line, rows);
-    }
-    if part == 5 {
-        if !is_row(front, count) {
-            return standing(0, line, rows);
+    // Before the first byte.
+    pub fn new() -> Form
+        ensures { (point_of result ≡ start) × (result.line ≡ 1) }
+    {
+        Form {
+            part: Part::SwitchHeader,
+            line: 1,
+            rows: 0,
+            count: 0,
+            front: [0; KEPT],
         }
-        if MOST_ROWS <= rows {
-            return standing(0, line, rows);
+    }
+
+    // The line ends whose first bytes are kept.
+    fn end_line(&mut self)
+        requires { self.old.line < 2 ^ 62 }
+        ensures { (stand_of self.new ≡ ends (stand_of self.old) (take self.old.count self.old.front)) × (self.new.count ≡ 0) × (self.new.line ≤ self.old.line + 1) }
+    {
+        let next = self.part.after(&self.front[..self.count], self.rows);
+        let goes_on = next != Part::Faulty;
+        let is_row = self.part == Part::Rows;
+        self.line += usize::from(goes_on);
+        self.rows += usize::from(goes_on & is_row);
+        self.part = next;
+        self.count = 0;
+    }
+
+    // One byte.
+    fn take(&mut self, c: u8)
+        requires { self.old.line < 2 ^ 62 }
+        ensures { (point_of self.new ≡ step c (point_of self.old)) × (self.new.line ≤ self.old.line + 1) }
+    {
+        if c == NEWLINE {
+            self.end_line();
+        } else if self.count < KEPT {
+            self.front[self.count] = c;
+            self.count += 1;
         }
-        return standing(5, line + 1, rows + 1);
     }
-    if is_wanted(part, front, count) {
-        return standing(part + 1, line + 1, rows);
-    }
-    if part == 4 {
-        return standing(part, line + 1, rows);
-    }
-    standing(0, line, rows)
-}
 
-// One byte.
-fn take_byte(form: Form, front: &mut [u8], c: u8) -> Form
-    requires { Fits form front.old × (form.line < 2 ^ 62) }
-    ensures { (point_of result front.new ≡ step c (point_of form front.old)) × ((Fits result front.new) × (result.line ≤ form.line + 1)) }
-{
-    if c == NEWLINE {
-        return end_line(form, front);
+    // The bytes of a piece.
+    pub fn take_piece(&mut self, piece: &[u8])
+        requires { self.old.line + length piece.now < 2 ^ 62 }
+        ensures { (point_of self.new ≡ scan (point_of self.old) piece.now) × (self.new.line ≤ self.old.line + length piece.now) }
+    {
+        for c in piece {
+            self.take(*c);
+        }
     }
-    let count = form.count;
-    if KEPT <= count {
-        return form;
-    }
-    front[count] = c;
-    Form {
-        part: form.part,
-        line: form.line,
-        rows: form.rows,
-        count: count + 1,
-    }
-}
 
-// The bytes of a piece.
-pub fn take_piece(form: Form, front: &mut [u8], piece: &[u8]) -> Form
-    requires { Fits form front.old × (form.line + length piece.now < 2 ^ 62) }
-    ensures { (point_of result front.new ≡ scan (point_of form front.old) piece.now)
-        × ((Fits result front.new) × (result.line ≤ form.line + length piece.now)) }
-{
-    let mut at = form;
-    let mut i: usize = 0;
-    while i < piece.len() {
-        at = take_byte(at, front, piece[i]);
-        i += 1;
+    // Whether no later byte can change what is told: the line is faulty already, or too long for any but a name
+    // (`settled-stays`).
+    pub fn is_settled(&self) -> bool
+        ensures { result ≡ settled (part_number self.now.part) self.now.count }
+    {
+        match self.part {
+            Part::Faulty => true,
+            Part::Names => false,
+            _ => KEPT <= self.count,
+        }
     }
-    at
-}
 
-// Whether no later byte can change what is told: the line is faulty already, or too long for any but a name
-// (`settled-stays`).
-pub fn is_settled(part: usize, count: usize) -> bool
-    ensures { result ≡ settled part count }
-{
-    if part == 0 {
-        return true;
+    // A line that has begun ends too.
+    fn closed(mut self) -> Form
+        requires { self.line < 2 ^ 62 }
+        ensures { (stand_of result ≡ close (point_of self)) × (result.line ≤ self.line + 1) }
+    {
+        if self.count == 0 {
+            return self;
+        }
+        self.end_line();
+        self
     }
-    if part == 4 {
-        return false;
-    }
-    KEPT <= count
-}
 
-// The text ends: its first faulty or missing line, or 0 where it is in the form.
-pub fn faulty_line(form: Form, front: &[u8]) -> usize
-    requires { Fits form front.now × (form.line < 2 ^ 62) }
-    ensures { (result ≡ told (close (point_of form front.now))) × (result ≤ form.line + 1) }
-{
-    let last = last_line(form, front);
-    if last.part == 5 {
-        return 0;
+    // The text ends: its first faulty or missing line, if it is not in the form.
+    pub fn end_text(self) -> Result<(), FaultyLine>
+        requires { self.line < 2 ^ 62 }
+        ensures { MatchResult result
+            (λ _. told (close (point_of self)) ≡ 0)
+            (λ e. (e.line ≡ told (close (point_of self))) × (0 < e.line) × (e.line ≤ self.line + 1)) }
+    {
+        let last = self.closed();
+        match last.part {
+            Part::Rows => Ok(()),
+            _ => Err(FaultyLine { line: last.line }),
+        }
     }
-    last.line
-}
-
-// A line that has begun ends too.
-fn last_line(form: Form, front: &[u8]) -> Form
-    requires { Fits form front.now × (form.line < 2 ^ 62) }
-    ensures { (stand_of result ≡ close (point_of form front.now)) × (result.line ≤ form.line + 1) }
-{
-    if form.count == 0 {
-        return form;
-    }
-    end_line(form, front)
 }

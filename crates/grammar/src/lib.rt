@@ -2,312 +2,183 @@
 
 #![tactic(auto)]
 
+pub mod kind;
 pub mod kinds;
+pub mod place;
 
-ghost use Rattle.std.specs.Prelude.{◌≡◌, true, ℕ, ◌<◌};
-ghost use Rattle.grammar.specs.Masks.{set_of, count_by_attr, last_attr, attr_by_place};
-ghost use Rattle.grammar.specs.Grammar.{place_of, kind_ok, declaration_ok, constructor_ok, attr_ok, fits, count_ok, made_row, names_one, name_ok};
+ghost use Rattle.std.specs.Prelude.{◌≡◌, ℕ};
+ghost use Rattle.grammar.specs.Codes.{kind_number, place_number};
+ghost use Rattle.grammar.specs.Grammar.{place_of, expression, statement_kind, declaration_ok, constructor_ok, attr_ok, fits, count_ok, made_row, name_ok};
 
-use crate::kinds::{
-    ARGUMENTS, ARROW, ASSIGN, BLOCK, BODY, CALL, CLASS, COMPUTED, DECLARATOR, EXPR_STMT, FIELD,
-    FUNCTION, IDENT, MEMBER, METHOD, OBJECT, OPAQUE, OTHER, PARAMS, PROGRAM, PROPERTY, RETURN,
-    SEQUENCE, STATIC_BLOCK, TARGET, VAR,
-};
+use crate::kind::Kind;
+use crate::place::Place;
 
-// The places in which a row can stand under its parent.
-const NO_PLACE: u8 = 0;
-
-const TOP_PLACE: u8 = 1;
-
-const STATEMENT_PLACE: u8 = 2;
-
-const EXPRESSION_PLACE: u8 = 3;
-// An expression or Super.
-const OBJECT_PLACE: u8 = 4;
-
-const DECLARATOR_PLACE: u8 = 5;
-
-const PARAMS_PLACE: u8 = 6;
-
-const BODY_PLACE: u8 = 7;
-// A Method, Field or StaticBlock.
-const MEMBER_PLACE: u8 = 8;
-
-const TARGET_PLACE: u8 = 9;
-// Under Other, Opaque, Object and Target.
-const OTHER_PLACE: u8 = 10;
-
-const OPAQUE_PLACE: u8 = 11;
-
-const PROPERTY_PLACE: u8 = 12;
-
-const ASSIGNED_PLACE: u8 = 13;
-// A Function that is no constructor, and one that may be.
-const FUNCTION_PLACE: u8 = 14;
-
-const CONSTRUCTOR_PLACE: u8 = 15;
-// The last attr of a kind that has any.
-const ANY_ATTR: usize = 18446744073709551615;
-
-pub fn kind_ok(k: usize) -> bool
-    ensures { result ≡ kind_ok k }
+// Statements by their kind alone.
+fn is_statement(kind: Kind) -> bool
+    ensures { result ≡ statement_kind (kind_number kind) }
 {
-    (k <= 28) & !(k == 7)
+    matches!(
+        kind,
+        Kind::ExprStmt | Kind::Var | Kind::Return | Kind::Block | Kind::Other
+    )
 }
 
-fn declaration_ok(a: usize, place: u8) -> bool
-    ensures { result ≡ declaration_ok a place }
+fn is_expression(kind: Kind) -> bool
+    ensures { result ≡ expression (kind_number kind) }
 {
-    ((place == STATEMENT_PLACE) & (a / 8 % 2 == 1))
-        | (place == OTHER_PLACE)
-        | (!(place == STATEMENT_PLACE) & !(place == OTHER_PLACE) & !(a / 8 % 2 == 1))
+    matches!(
+        kind,
+        Kind::Opaque
+            | Kind::This
+            | Kind::Ident
+            | Kind::Member
+            | Kind::Computed
+            | Kind::Call
+            | Kind::Assign
+            | Kind::Arrow
+            | Kind::Function
+            | Kind::Class
+            | Kind::Object
+            | Kind::Sequence
+            | Kind::Arguments
+    )
 }
 
-fn constructor_ok(a: usize, place: u8) -> bool
-    ensures { result ≡ constructor_ok a place }
+// What may stand in a place, by its kind.
+pub fn fits_in(place: Place, kind: Kind) -> bool
+    ensures { result ≡ fits (place_number place) (kind_number kind) }
 {
-    !(a / 4 % 2 == 1) | ((a == 4) & (place == CONSTRUCTOR_PLACE))
-}
-
-// The last attr of a kind but Function and Class; the kind's attrs are the numbers up to it.
-#[tactic(auto, unfolding(crate::specs::Masks::last_attr))]
-fn last_attr(k: usize) -> usize
-    ensures { result ≡ last_attr k }
-{
-    match k {
-        VAR => 2,
-        DECLARATOR => 1,
-        BLOCK => 1,
-        OTHER => ANY_ATTR,
-        OPAQUE => ANY_ATTR,
-        IDENT => 1,
-        MEMBER => 1,
-        ASSIGN => 15,
-        ARROW => 3,
-        METHOD => 3,
-        FIELD => 7,
-        PROPERTY => 3,
-        ARGUMENTS => 1,
-        _ => 0,
+    match place {
+        Place::Nowhere => false,
+        Place::Top => matches!(kind, Kind::Program),
+        Place::Statement => { is_statement(kind) | matches!(kind, Kind::Function | Kind::Class) }
+        Place::Expression => is_expression(kind),
+        Place::Object => is_expression(kind) | matches!(kind, Kind::Super),
+        Place::Declarator => matches!(kind, Kind::Declarator),
+        Place::Params => matches!(kind, Kind::Params),
+        Place::Body => matches!(kind, Kind::Body),
+        Place::Member => matches!(kind, Kind::Method | Kind::Field | Kind::StaticBlock),
+        Place::Target => matches!(kind, Kind::Target),
+        Place::Other => { is_statement(kind) | is_expression(kind) | matches!(kind, Kind::Target) }
+        Place::Opaque => is_expression(kind) | matches!(kind, Kind::Target),
+        Place::Property => is_expression(kind) | matches!(kind, Kind::Property),
+        Place::Assigned => {
+            matches!(
+                kind,
+                Kind::Opaque | Kind::Ident | Kind::Member | Kind::Computed
+            )
+        }
+        Place::Function => matches!(kind, Kind::Function),
+        Place::Constructor => matches!(kind, Kind::Function),
     }
 }
 
-// The attrs of Function and Class, which depend on the place too.
-fn placed_attr(k: usize, a: usize, place: u8) -> bool
-    ensures { result ≡ attr_by_place k a place }
+fn declaration_ok(a: usize, place: Place) -> bool
+    ensures { result ≡ declaration_ok a (place_number place) }
 {
-    let declared = declaration_ok(a, place);
-    let constructs = constructor_ok(a, place);
-    ((k == FUNCTION) & (a < 16) & declared & constructs)
-        | ((k == CLASS) & (a < 10) & !(a / 2 % 2 == 1) & !(a / 4 % 2 == 1) & declared)
+    let declares = a / 8 % 2 == 1;
+    match place {
+        Place::Statement => declares,
+        Place::Other => true,
+        _ => !declares,
+    }
+}
+
+fn constructor_ok(a: usize, place: Place) -> bool
+    ensures { result ≡ constructor_ok a (place_number place) }
+{
+    !(a / 4 % 2 == 1) | ((a == 4) & matches!(place, Place::Constructor))
 }
 
 // The attrs of a kind that is in the list.
-pub fn attr_ok(k: usize, a: usize, place: u8) -> bool
-    requires { kind_ok k ≡ true }
-    ensures { result ≡ attr_ok k a place }
+pub fn attr_ok(kind: Kind, a: usize, place: Place) -> bool
+    ensures { result ≡ attr_ok (kind_number kind) a (place_number place) }
 {
-    if (k == FUNCTION) | (k == CLASS) {
-        return placed_attr(k, a, place);
-    }
-    a <= last_attr(k)
-}
-
-// The kinds that may stand in a place, as a set: bit k is 1 where kind k is in it.
-#[tactic(auto, unfolding(crate::specs::Masks::bits_from, crate::specs::Masks::set_of))]
-fn kinds_in(place: u8) -> usize
-    ensures { result ≡ set_of (fits place) }
-{
-    match place {
-        TOP_PLACE => 1,
-        STATEMENT_PLACE => 0x120076,
-        EXPRESSION_PLACE => 0xD13FB00,
-        OBJECT_PLACE => 0xD13FF00,
-        DECLARATOR_PLACE => 8,
-        PARAMS_PLACE => 0x40000,
-        BODY_PLACE => 0x80000,
-        MEMBER_PLACE => 0xE00000,
-        TARGET_PLACE => 0x10000000,
-        OTHER_PLACE => 0x1D13FB76,
-        OPAQUE_PLACE => 0x1D13FB00,
-        PROPERTY_PLACE => 0xF13FB00,
-        ASSIGNED_PLACE => 0x3900,
-        FUNCTION_PLACE => 0x20000,
-        CONSTRUCTOR_PLACE => 0x20000,
-        _ => 0,
+    match kind {
+        Kind::Unlisted => false,
+        Kind::Var => a < 3,
+        Kind::Declarator | Kind::Block | Kind::Ident | Kind::Member | Kind::Arguments => a < 2,
+        Kind::Other | Kind::Opaque => true,
+        Kind::Assign => a < 16,
+        Kind::Arrow | Kind::Method | Kind::Property => a < 4,
+        Kind::Function => (a < 16) & declaration_ok(a, place) & constructor_ok(a, place),
+        Kind::Class => {
+            (a < 10) & !(a / 2 % 2 == 1) & !(a / 4 % 2 == 1) & declaration_ok(a, place)
+        }
+        Kind::Field => a < 8,
+        _ => a == 0,
     }
 }
 
-// What may stand in a place, by its kind, which is in the list.
-pub fn fits_in(place: u8, k: usize) -> bool
-    requires { k < 29 }
-    ensures { result ≡ fits place k }
+// How many children a row has.
+pub fn count_ok(kind: Kind, a: usize, count: usize) -> bool
+    ensures { result ≡ count_ok (kind_number kind) a count }
 {
-    (kinds_in(place) >> k) % 2 == 1
-}
-
-// The kinds whose rows may have so many children where attr is 0, as a set: bit k is 1 where kind k
-// is in it.
-#[tactic(auto, unfolding(crate::specs::Masks::bits_from, crate::specs::Masks::set_of))]
-fn kinds_of(count: usize) -> usize
-    ensures { result ≡ set_of (λ k. count_ok k 0 count) }
-{
-    match count {
-        0 => 0x9DC0F7D,
-        1 => 0x13BC517F,
-        2 => 0x59FE165,
-        _ => 0x59C4165,
+    match kind {
+        Kind::Unlisted => false,
+        Kind::Program | Kind::Block | Kind::Body | Kind::StaticBlock => true,
+        Kind::Var | Kind::Other | Kind::Opaque | Kind::Params | Kind::Object => true,
+        Kind::ExprStmt | Kind::Member | Kind::Target => count == 1,
+        Kind::Declarator | Kind::Return => count < 2,
+        Kind::This | Kind::Super | Kind::Ident | Kind::Arguments => count == 0,
+        Kind::Computed | Kind::Assign | Kind::Arrow | Kind::Function => count == 2,
+        Kind::Call => 0 < count,
+        Kind::Class => !(a % 2 == 1) | (0 < count),
+        Kind::Method | Kind::Property => count == 1 + a % 2,
+        Kind::Field => count == a % 2 + a / 4 % 2,
+        Kind::Sequence => 1 < count,
     }
-}
-
-// How many children a row has, of the four kinds for which it depends on attr.
-fn counted(k: usize, a: usize, count: usize) -> bool
-    ensures { result ≡ count_by_attr k a count }
-{
-    ((k == CLASS) & (!(a % 2 == 1) | (0 < count)))
-        | (((k == METHOD) | (k == PROPERTY)) & (count == 1 + a % 2))
-        | ((k == FIELD) & (count == a % 2 + a / 4 % 2))
-}
-
-// How many children a row has, whose kind is in the list.
-pub fn count_ok(k: usize, a: usize, count: usize) -> bool
-    requires { k < 29 }
-    ensures { result ≡ count_ok k a count }
-{
-    if (k == CLASS) | (k == METHOD) | (k == FIELD) | (k == PROPERTY) {
-        return counted(k, a, count);
-    }
-    (kinds_of(count) >> k) % 2 == 1
 }
 
 // A row that refusal 5 names.
-pub fn made_row(k: usize, a: usize) -> bool
-    ensures { result ≡ made_row k a }
+pub fn made_row(kind: Kind, a: usize) -> bool
+    ensures { result ≡ made_row (kind_number kind) a }
 {
-    ((a == 1) & ((k == DECLARATOR) | (k == IDENT) | (k == MEMBER))) | (k == ARGUMENTS)
+    match kind {
+        Kind::Declarator | Kind::Ident | Kind::Member => a == 1,
+        Kind::Arguments => true,
+        _ => false,
+    }
 }
 
-fn names_one(k: usize) -> bool
-    ensures { result ≡ names_one k }
+// Whether a row may have that name, of so many names.
+pub fn name_ok(kind: Kind, a: usize, name: usize, names: usize) -> bool
+    ensures { result ≡ name_ok (kind_number kind) a name names }
 {
-    (k == DECLARATOR) | (k == IDENT) | (k == MEMBER)
+    match kind {
+        Kind::Declarator | Kind::Ident | Kind::Member => (a == 1) | ((0 < name) & (name <= names)),
+        Kind::Function | Kind::Class => name <= names,
+        Kind::Other | Kind::Opaque | Kind::Arguments => true,
+        _ => name == 0,
+    }
 }
 
-pub fn name_ok(k: usize, a: usize, name: usize, names: usize) -> bool
-    ensures { result ≡ name_ok k a name names }
-{
-    if names_one(k) {
-        return (a == 1) | ((0 < name) & (name <= names));
-    }
-    if name == 0 {
-        return true;
-    }
-    if (k == FUNCTION) | (k == CLASS) {
-        return name <= names;
-    }
-    (k == OTHER) | (k == OPAQUE) | (k == ARGUMENTS)
-}
-
-// The place of the first child under a row of kind k whose attr is 0,
+// The place of the child at position pos under a row of that kind and attr.
 #[tactic(auto, unfolding(crate::specs::Grammar::place_of, crate::specs::Grammar::place_in_function, crate::specs::Grammar::place_in_class))]
-fn first_in(k: usize) -> u8
-    ensures { result ≡ place_of k 0 0 }
+pub fn place_of(kind: Kind, a: usize, pos: usize) -> Place
+    ensures { place_number result ≡ place_of (kind_number kind) a pos }
 {
-    match k {
-        PROGRAM => STATEMENT_PLACE,
-        EXPR_STMT => EXPRESSION_PLACE,
-        VAR => DECLARATOR_PLACE,
-        DECLARATOR => EXPRESSION_PLACE,
-        RETURN => EXPRESSION_PLACE,
-        BLOCK => STATEMENT_PLACE,
-        OTHER => OTHER_PLACE,
-        OPAQUE => OPAQUE_PLACE,
-        MEMBER => OBJECT_PLACE,
-        COMPUTED => OBJECT_PLACE,
-        CALL => OBJECT_PLACE,
-        ASSIGN => TARGET_PLACE,
-        ARROW => PARAMS_PLACE,
-        FUNCTION => PARAMS_PLACE,
-        PARAMS => DECLARATOR_PLACE,
-        BODY => STATEMENT_PLACE,
-        CLASS => MEMBER_PLACE,
-        METHOD => CONSTRUCTOR_PLACE,
-        FIELD => EXPRESSION_PLACE,
-        STATIC_BLOCK => STATEMENT_PLACE,
-        OBJECT => PROPERTY_PLACE,
-        PROPERTY => EXPRESSION_PLACE,
-        SEQUENCE => EXPRESSION_PLACE,
-        TARGET => ASSIGNED_PLACE,
-        _ => NO_PLACE,
+    match kind {
+        Kind::Program | Kind::Block | Kind::Body | Kind::StaticBlock => Place::Statement,
+        Kind::ExprStmt | Kind::Declarator | Kind::Return | Kind::Sequence => Place::Expression,
+        Kind::Var | Kind::Params => Place::Declarator,
+        Kind::Other => Place::Other,
+        Kind::Opaque => Place::Opaque,
+        Kind::Member | Kind::Computed | Kind::Call if pos == 0 => Place::Object,
+        Kind::Assign if pos == 0 => Place::Target,
+        Kind::Member | Kind::Computed | Kind::Call | Kind::Assign => Place::Expression,
+        Kind::Arrow | Kind::Function if pos == 0 => Place::Params,
+        Kind::Arrow if a / 2 % 2 == 1 => Place::Expression,
+        Kind::Arrow | Kind::Function => Place::Body,
+        Kind::Class | Kind::Method | Kind::Property if (a % 2 == 1) & (pos == 0) => {
+            Place::Expression
+        }
+        Kind::Class => Place::Member,
+        Kind::Method | Kind::Property if a / 2 % 2 == 1 => Place::Function,
+        Kind::Method => Place::Constructor,
+        Kind::Field | Kind::Property => Place::Expression,
+        Kind::Object => Place::Property,
+        Kind::Target => Place::Assigned,
+        _ => Place::Nowhere,
     }
-}
-
-// and of a later one.
-#[tactic(auto, unfolding(crate::specs::Grammar::place_of, crate::specs::Grammar::place_in_function, crate::specs::Grammar::place_in_class))]
-fn later_in(k: usize) -> u8
-    ensures { result ≡ place_of k 0 1 }
-{
-    match k {
-        PROGRAM => STATEMENT_PLACE,
-        EXPR_STMT => EXPRESSION_PLACE,
-        VAR => DECLARATOR_PLACE,
-        DECLARATOR => EXPRESSION_PLACE,
-        RETURN => EXPRESSION_PLACE,
-        BLOCK => STATEMENT_PLACE,
-        OTHER => OTHER_PLACE,
-        OPAQUE => OPAQUE_PLACE,
-        MEMBER => EXPRESSION_PLACE,
-        COMPUTED => EXPRESSION_PLACE,
-        CALL => EXPRESSION_PLACE,
-        ASSIGN => EXPRESSION_PLACE,
-        ARROW => BODY_PLACE,
-        FUNCTION => BODY_PLACE,
-        PARAMS => DECLARATOR_PLACE,
-        BODY => STATEMENT_PLACE,
-        CLASS => MEMBER_PLACE,
-        METHOD => CONSTRUCTOR_PLACE,
-        FIELD => EXPRESSION_PLACE,
-        STATIC_BLOCK => STATEMENT_PLACE,
-        OBJECT => PROPERTY_PLACE,
-        PROPERTY => EXPRESSION_PLACE,
-        SEQUENCE => EXPRESSION_PLACE,
-        TARGET => ASSIGNED_PLACE,
-        _ => NO_PLACE,
-    }
-}
-
-// The place of the first child under a row of kind k and attr a,
-fn first_place(k: usize, a: usize) -> u8
-    ensures { result ≡ place_of k a 0 }
-{
-    if ((k == CLASS) | (k == METHOD) | (k == PROPERTY)) & (a % 2 == 1) {
-        return EXPRESSION_PLACE;
-    }
-    if ((k == METHOD) | (k == PROPERTY)) & (a / 2 % 2 == 1) {
-        return FUNCTION_PLACE;
-    }
-    first_in(k)
-}
-
-// and of a later one.
-fn later_place(k: usize, a: usize) -> u8
-    ensures { result ≡ place_of k a 1 }
-{
-    if ((k == METHOD) | (k == PROPERTY)) & (a / 2 % 2 == 1) {
-        return FUNCTION_PLACE;
-    }
-    if (k == ARROW) & (a / 2 % 2 == 1) {
-        return EXPRESSION_PLACE;
-    }
-    later_in(k)
-}
-
-// The place of the child at position pos under a row of kind k and attr a.
-pub fn place_of(k: usize, a: usize, pos: usize) -> u8
-    ensures { (result ≡ place_of k a pos) × (result < 16) }
-{
-    if pos == 0 {
-        return first_place(k, a);
-    }
-    later_place(k, a)
 }

@@ -18,10 +18,15 @@ use Rattle.inserted.specs.Insertions.{accessor_of, accessor_decl}
 use Rattle.output.proofs.Writing.{size-join, size_node, size_none}
 use Rattle.inserted.proofs.Shapes.{this_none, arguments_none, arguments_join, size_arguments, size-late, size-here}
 use Rattle.bindings.specs.Store.{binds, Store}
+use Rattle.bindings.specs.declared.frame.Frame.{Frame}
 use Rattle.bindings.proofs.Numbered.{this_number, arguments_number}
 use Rattle.insertion.specs.Declarations.{Held, frame_accessors, frame_decls, param_after, bare_at}
 use Rattle.insertion.proofs.Links.{link-first}
 use Rattle.insertion.proofs.Declaring.{decls_from, decls-all, decls-next}
+
+-- what a frame holds, as the code has it
+pub held : (s : Frame) → Held s.bindings.made.now s.bindings.cap s.bindings.count s.row
+held s = record { store = s.bindings.store; frame_low = s.low; cap_low = s.bindings.small }
 
 -- whatever the names, the Declarators are those of the steps
 pub frame-decls : (N : Names) (M : List ℕ) (cap count r : ℕ) (g l : Bool) → Store M cap count → r < cap → declared N (binds M cap count) r g l ≡ frame_decls M cap count r g l

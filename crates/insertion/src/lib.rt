@@ -2,137 +2,104 @@
 
 #![tactic(auto)]
 
-ghost use Rattle.std.specs.Prelude.{◌≡◌, ◌+◌, ◌*◌, ◌<◌, ◌≤◌, ◌^◌, length, get_or};
+ghost use Rattle.std.specs.Prelude.{◌≡◌, ◌+◌, ◌<◌, ◌^◌};
 ghost use Rattle.grammar.specs.Kinds.{Var};
 ghost use Rattle.forest.specs.Forest.{Rows.none, Rows.node, size};
 ghost use Rattle.steps.specs.TopInsertion.{var_first};
 ghost use Rattle.output.specs.Output.{Done};
 ghost use Rattle.output.specs.Held.{grown};
-ghost use Rattle.insertion.specs.Declarations.{Held, frame_accessors, frame_decls, param_after, bare_at};
+ghost use Rattle.insertion.specs.Declarations.{accessors_in, decls_in, param_after, bare_at};
 
-use bindings::entry;
+use bindings::Use;
+use bindings::frame::Frame;
+use bindings::view::Bindings;
 use grammar::kinds;
 use output::writer::{Writer, finish, new};
 
 const VAR: u32 = kinds::VAR as u32;
 
-// Word j of the array.
-fn word(made: &[u32], j: usize) -> u32
-    requires { j < length made.now }
-    ensures { result ≡ get_or made.now j 0 }
-{
-    made[j]
-}
-
 // The parameter behind `p` in its chain where `p` is taken, else `p`; 0 is none.
-fn after(made: &[u32], cap: usize, p: usize, taken: bool) -> usize
-    requires { (length made.now ≡ 12 * cap) × ((p < cap) × (cap ≤ 16384)) }
-    ensures { result ≡ param_after made.now cap p taken }
+fn after(bindings: Bindings<'_>, p: u32, taken: bool) -> u32
+    requires { p < bindings.cap }
+    ensures { result ≡ param_after bindings.entry.made.now bindings.entry.cap p taken }
 {
     if taken {
         if p == 0 {
             return 0;
         }
-        return entry(made, 3 * cap + p);
+        return bindings.next(p);
     }
     p
 }
 
 // The Declarators of a frame's accessors, by first use: along the chain of accessors, and beside it
 // along that of their parameters.
-fn accessor_declarators(
-    made: &[u32],
-    cap: usize,
-    count: usize,
-    frame: usize,
-    out: &mut [u8],
-    at: usize,
-) -> usize
-    requires held { Held made.now cap count frame }
-    requires none_bound { at + size (frame_accessors made.now cap count frame none) < 2 ^ 32 }
-    ensures { Done out.old at (frame_accessors made.now cap count frame none) result out.new }
+fn accessor_declarators(frame: Frame<'_>, out: &mut [u8], at: usize) -> usize
+    requires { at + size (accessors_in frame none) < 2 ^ 32 }
+    ensures { Done out.old at (accessors_in frame.entry none) result out.new }
 {
+    let all = frame.bindings;
     let mut w = at;
-    let mut b = entry(made, 6 * cap + frame);
-    let mut p = entry(made, 8 * cap + frame);
+    let mut b = all.first_accessor(frame.row);
+    let mut p = all.first_param(frame.row);
+    // Two chains side by side, no counted index: an iterator over them would be no plainer.
     while b != 0 {
-        let usage = word(made, b);
-        let property = word(made, cap + b);
-        let v = after(made, cap, p, property == 0);
-        w = inserted::accessor_declarator(out, w, b as u32, usage, property, p as u32, v as u32);
-        p = after(made, cap, v, usage == 4);
-        b = entry(made, 3 * cap + b);
+        let record = all.record(b);
+        let v = after(all, p, record.property == 0);
+        w = inserted::accessor_declarator(out, w, b, record.usage, record.property, p, v);
+        p = after(all, v, record.usage == Use::Set as u32);
+        b = all.next(b);
     }
     w
 }
 
 // Whether the frame has no capture and no accessor.
-fn is_bare(made: &[u32], cap: usize, frame: usize) -> bool
-    requires { (length made.now ≡ 12 * cap) × ((frame < cap) × (cap ≤ 16384)) }
-    ensures { result ≡ bare_at made.now cap frame }
+fn is_bare(frame: Frame<'_>) -> bool
+    ensures { result ≡ bare_at frame.entry.bindings.made.now frame.entry.bindings.cap frame.entry.row }
 {
-    let this = entry(made, 4 * cap + frame);
-    let arguments = entry(made, 5 * cap + frame);
-    let accessor = entry(made, 6 * cap + frame);
-    (this == 0) & (arguments == 0) & (accessor == 0)
+    let all = frame.bindings;
+    (all.this_of(frame.row) == 0)
+        & (all.arguments_of(frame.row) == 0)
+        & (all.first_accessor(frame.row) == 0)
 }
 
 // The Declarators of a frame's Var: `arguments`, guarded at Program; the accessors; `this`, with no
 // initialiser where `late`.
-fn declarators(
-    made: &[u32],
-    cap: usize,
-    count: usize,
-    frame: usize,
-    guarded: bool,
-    late: bool,
-    out: &mut [u8],
-    at: usize,
-) -> usize
-    requires { Held made.now cap count frame × (at + size (frame_decls made.now cap count frame guarded late) < 2 ^ 32) }
-    ensures { Done out.old at (frame_decls made.now cap count frame guarded late) result out.new }
+fn declarators(frame: Frame<'_>, guarded: bool, late: bool, out: &mut [u8], at: usize) -> usize
+    requires { at + size (decls_in frame guarded late) < 2 ^ 32 }
+    ensures { Done out.old at (decls_in frame.entry guarded late) result out.new }
 {
-    let arguments = word(made, 5 * cap + frame);
-    let this = word(made, 4 * cap + frame);
+    let all = frame.bindings;
+    let arguments = all.arguments_of(frame.row);
+    let this = all.this_of(frame.row);
     let first = inserted::arguments_declarator(out, at, arguments, guarded);
-    let last = accessor_declarators(made, cap, count, frame, out, first);
+    let last = accessor_declarators(frame, out, first);
     inserted::this_declarator(out, last, this, late)
 }
 
 // The same behind what a writer has put.
-fn declare(
-    w: &mut Writer<'_>,
-    made: &[u32],
-    cap: usize,
-    count: usize,
-    frame: usize,
-    guarded: bool,
-    late: bool,
-)
-    requires { Held made.now cap count frame × (w.old.at + size (frame_decls made.now cap count frame guarded late) < 2 ^ 32) }
+fn declare(w: &mut Writer<'_>, frame: Frame<'_>, guarded: bool, late: bool)
+    requires { w.old.at + size (decls_in frame guarded late) < 2 ^ 32 }
     ensures same_reference { w.new.rows.ghost_name ≡ w.old.rows.ghost_name }
-    ensures forest { w.new ≡ grown w.old (frame_decls made.now cap count frame guarded late) }
+    ensures forest { w.new ≡ grown w.old (decls_in frame.entry guarded late) }
 {
-    w.at = declarators(made, cap, count, frame, guarded, late, w.rows, w.at);
+    w.at = declarators(frame, guarded, late, w.rows, w.at);
 }
 
 // The Var with its Declarators, through one writer.
 fn variable_statement(
-    out: &mut [u8],
-    at: usize,
-    made: &[u32],
-    cap: usize,
-    count: usize,
-    frame: usize,
+    frame: Frame<'_>,
     guarded: bool,
     late: bool,
+    out: &mut [u8],
+    at: usize,
 ) -> usize
-    requires { Held made.now cap count frame × (at + 1 + size (frame_decls made.now cap count frame guarded late) < 2 ^ 32) }
-    ensures { Done out.old at (node Var 0 0 (frame_decls made.now cap count frame guarded late) none) result out.new }
+    requires { at + 1 + size (decls_in frame guarded late) < 2 ^ 32 }
+    ensures { Done out.old at (node Var 0 0 (decls_in frame.entry guarded late) none) result out.new }
 {
     let mut w = new(out, at);
     w.append(VAR, 0, 0, 0);
-    declare(&mut w, made, cap, count, frame, guarded, late);
+    declare(&mut w, frame, guarded, late);
     w.close(at);
     finish(w)
 }
@@ -140,21 +107,17 @@ fn variable_statement(
 // The Var that goes first in a frame; nothing where the frame has no capture and no accessor. The
 // answer is the next row's number.
 pub fn insert_variable_statement_at_the_top_of_statements(
-    made: &[u32],
-    cap: usize,
-    count: usize,
-    frame: usize,
+    frame: Frame<'_>,
     guarded: bool,
     late: bool,
     out: &mut [u8],
     at: usize,
 ) -> usize
-    requires held { Held made.now cap count frame }
-    requires none_bound { at + size (var_first (frame_decls made.now cap count frame guarded late) none) < 2 ^ 32 }
-    ensures { Done out.old at (var_first (frame_decls made.now cap count frame guarded late) none) result out.new }
+    requires { at + size (var_first (decls_in frame guarded late) none) < 2 ^ 32 }
+    ensures { Done out.old at (var_first (decls_in frame.entry guarded late) none) result out.new }
 {
-    if is_bare(made, cap, frame) {
+    if is_bare(frame) {
         return at;
     }
-    variable_statement(out, at, made, cap, count, frame, guarded, late)
+    variable_statement(frame, guarded, late, out, at)
 }

@@ -9,7 +9,10 @@ use native.Mathlib.Omega.{arith}
 use borrow.Author.Tests.{lt-ltb, le-ltb, le-leb, lt-leb, leb-true}
 use Rattle.names.proofs.Bools.{and_left, and_right}
 use Rattle.letters.specs.Characters.{encode_all}
-use Rattle.letters.specs.Letters.{entry_bytes, entry_for, capitals_in, uppers, Upper, in_table, capital, flipped, cyrillic_capital, Capitals}
+use Rattle.std.specs.Prelude.{Option, Some, None, is_some}
+use Rattle.letters.specs.Letters.{entry_bytes, entry_for, capitals_in, uppers, Upper, in_table, known, capital, flipped, cyrillic_capital, told, Capitals}
+use Rattle.letters.specs.declared.Capital.{Capital}
+use Rattle.letters.specs.declared.Capital.TheVariants.{One, Two}
 use Rattle.letters.proofs.Range.{every, at, same, same-eq}
 
 -- The code's table against Unicode's list: the test at one place, and the law that turns it, passed over the first n places, into the rule at each of them.
@@ -47,41 +50,6 @@ two_bytes z a b =
     let k : z < 0x800 = omega arith in
     rw (le-ltb z 0x80 l, lt-ltb z 0x800 k)
 
-pub ascii : (c x : ℕ) → c < 0x80 → x ≡ flipped c → Capitals c 1 x 0
-unfolding capital
-ascii c x h e = record { bytes = rw (lt-ltb c 0x80 h, ← e); most = omega arith; heard = rw (lt-ltb c 0x80 h) }
-
-pub latin : (c x y : ℕ) → 0x80 ≤ c → c ≤ 0xFF → ◌≡◌ {A = List ℕ} (x ∷ y ∷ []) (entry_for (c - 0x80)) → Capitals c 2 x y
-unfolding capital
-latin c x y h k e =
-    record { bytes = e ∙ entry_of c h ∙ rw (le-ltb c 0x80 h, le-leb 0x80 c h, le-leb c 0xFF k); most = omega arith; heard = rw (le-ltb c 0x80 h, le-leb 0x80 c h, le-leb c 0xFF k) }
-
-pub cyrillic : (c z x y : ℕ) → 0x400 ≤ c → c ≤ 0x45F → z ≡ cyrillic_capital c → 0x400 ≤ z → z ≤ 0x42F → x ≡ 0xC0 + z / 64 → y ≡ 0x80 + z % 64 → Capitals c 2 x y
-unfolding capital
-cyrillic c z x y h k q lo hi p r =
-    let a : 0x80 ≤ c = omega arith in
-    let b : 0xFF < c = omega arith in
-    let e : encode_all (capitals_in uppers c) ≡ (0xC0 + z / 64) ∷ (0x80 + z % 64) ∷ [] = ap encode_all (cyrillic-entries c h k ∙ ap (λ (m : ℕ). m ∷ []) (sym q)) ∙ two_bytes z lo hi in
-    record {
-      bytes = rw (le-ltb c 0x80 a, le-leb 0x80 c a, lt-leb c 0xFF b, le-leb 0x400 c h, le-leb c 0x45F k, e, p, r);
-      most = omega arith;
-      heard = rw (le-ltb c 0x80 a, le-leb 0x80 c a, lt-leb c 0xFF b, le-leb 0x400 c h, le-leb c 0x45F k);
-    }
-
-pub between : (c : ℕ) → 0xFF < c → c < 0x400 → Capitals c 0 0 0
-unfolding capital
-between c h k =
-    let a : 0x80 ≤ c = omega arith in
-    record { bytes = rw (le-ltb c 0x80 a, le-leb 0x80 c a, lt-leb c 0xFF h, lt-leb 0x400 c k); most = omega arith; heard = rw (le-ltb c 0x80 a, le-leb 0x80 c a, lt-leb c 0xFF h, lt-leb 0x400 c k) }
-
-pub beyond : (c : ℕ) → 0x45F < c → Capitals c 0 0 0
-unfolding capital
-beyond c h =
-    let a : 0x80 ≤ c = omega arith in
-    let b : 0xFF < c = omega arith in
-    let d : 0x400 ≤ c = omega arith in
-    record { bytes = rw (le-ltb c 0x80 a, le-leb 0x80 c a, lt-leb c 0xFF b, le-leb 0x400 c d, lt-leb c 0x45F h); most = omega arith; heard = rw (le-ltb c 0x80 a, le-leb 0x80 c a, lt-leb c 0xFF b, le-leb 0x400 c d, lt-leb c 0x45F h) }
-
 -- at most two bytes stand for a first character: each entry of Unicode's list gives so many
 abbrev short : List Upper → Bool
 short [] = true
@@ -110,3 +78,39 @@ all_short = refl
 pub capital-short : (c : ℕ) → length (capital c) ≤ 2
 unfolding capital
 capital-short c = short-one (ltb c 0x80) (in_table c) (flipped c ∷ []) (encode_all (capitals_in uppers c)) (omega arith) (short_in uppers c all_short)
+
+-- What each arm of the code answers.
+answers : (c : ℕ) (answer : Option Capital) → told answer ≡ capital c → is_some answer ≡ known c → Capitals c answer
+answers c answer e h = record { bytes = e; most = rw e (capital-short c); heard = h }
+
+pub ascii : (c x : ℕ) → c ≤ 0x7F → x ≡ flipped c → Capitals c (Some (One (x ∷ [])))
+unfolding capital
+ascii c x h e =
+    let l : c < 0x80 = omega arith in
+    answers _ _ (rw (lt-ltb c 0x80 l, ← e)) (rw (lt-ltb c 0x80 l))
+
+pub latin : (c : ℕ) (bs : List ℕ) → 0x80 ≤ c → c ≤ 0xFF → bs ≡ entry_for (c - 0x80) → Capitals c (Some (Two bs))
+unfolding capital
+latin c bs h k e = answers _ _ (e ∙ entry_of c h ∙ rw (le-ltb c 0x80 h, le-leb 0x80 c h, le-leb c 0xFF k)) (rw (le-ltb c 0x80 h, le-leb 0x80 c h, le-leb c 0xFF k))
+
+pub cyrillic : (c z : ℕ) → 0x400 ≤ c → c ≤ 0x45F → z ≡ cyrillic_capital c → 0x400 ≤ z → z ≤ 0x42F → Capitals c (Some (Two ((0xC0 + z / 64) ∷ (0x80 + z % 64) ∷ [])))
+unfolding capital
+cyrillic c z h k q lo hi =
+    let a : 0x80 ≤ c = omega arith in
+    let b : 0xFF < c = omega arith in
+    let e : encode_all (capitals_in uppers c) ≡ (0xC0 + z / 64) ∷ (0x80 + z % 64) ∷ [] = ap encode_all (cyrillic-entries c h k ∙ ap (λ (m : ℕ). m ∷ []) (sym q)) ∙ two_bytes z lo hi in
+    answers _ _ (rw (le-ltb c 0x80 a, le-leb 0x80 c a, lt-leb c 0xFF b, le-leb 0x400 c h, le-leb c 0x45F k, e)) (rw (le-ltb c 0x80 a, le-leb 0x80 c a, lt-leb c 0xFF b, le-leb 0x400 c h, le-leb c 0x45F k))
+
+pub between : (c : ℕ) → 0xFF < c → c < 0x400 → Capitals c None
+unfolding capital
+between c h k =
+    let a : 0x80 ≤ c = omega arith in
+    answers _ _ (rw (le-ltb c 0x80 a, le-leb 0x80 c a, lt-leb c 0xFF h, lt-leb 0x400 c k)) (rw (le-ltb c 0x80 a, le-leb 0x80 c a, lt-leb c 0xFF h, lt-leb 0x400 c k))
+
+pub beyond : (c : ℕ) → 0x45F < c → Capitals c None
+unfolding capital
+beyond c h =
+    let a : 0x80 ≤ c = omega arith in
+    let b : 0xFF < c = omega arith in
+    let d : 0x400 ≤ c = omega arith in
+    answers _ _ (rw (le-ltb c 0x80 a, le-leb 0x80 c a, lt-leb c 0xFF b, le-leb 0x400 c d, lt-leb c 0x45F h)) (rw (le-ltb c 0x80 a, le-leb 0x80 c a, lt-leb c 0xFF b, le-leb 0x400 c d, lt-leb c 0x45F h))

@@ -1,8 +1,10 @@
 -- Letter case, of a first character. "ASCII: a first byte at or above `a` has 0x20 flipped. U+0080 to U+00FF and U+0400 to U+045F: Unicode's full uppercase, by a 224-entry table (U+00DF gives `SS`)." Assumes nothing.
-use Rattle.std.specs.Prelude.{ℕ, ◌+◌, ◌-◌, ◌/◌, ◌%◌, ◌≤◌, ◌≡◌, Bool, cond, ◌||◌, not, List, [], ◌∷◌, take, ltb, leb, eqb}
+use Rattle.std.specs.Prelude.{ℕ, ◌+◌, ◌-◌, ◌/◌, ◌%◌, ◌≤◌, ◌≡◌, Bool, cond, ◌||◌, List, [], ◌∷◌, Option, Some, None, is_some, length, ltb, leb, eqb}
 use Rattle.std.specs.Int.Bits.{bit_xor}
 use Rattle.names.specs.Utf8.{within}
 use Rattle.letters.specs.Characters.{encode_all}
+use Rattle.letters.specs.declared.Capital.{Capital}
+use Rattle.letters.specs.declared.Capital.TheVariants.{One, Two}
 
 -- a character and its full uppercase, as code points
 pub record Upper : Type 0 where
@@ -274,8 +276,17 @@ entry_for k = encode_all (capitals_in uppers (0x80 + k))
 unfoldable pub cyrillic_capital : ℕ → ℕ
 cyrillic_capital c = cond (within 0x430 0x44F c) (c - 0x20) (cond (within 0x450 0x45F c) (c - 0x50) c)
 
+-- Of the code: the bytes of an answer.
+abbrev pub bytes_of : Capital → List ℕ
+bytes_of (One bytes) = bytes
+bytes_of (Two bytes) = bytes
+
+abbrev pub told : Option Capital → List ℕ
+told None = []
+told (Some answer) = bytes_of answer
+
 -- the code's bytes are those that stand for a first character; there are none exactly where it is not known
-pub record Capitals (code count one two : ℕ) : Type 0 where
-  pub bytes : take count (one ∷ two ∷ []) ≡ capital code
-  pub most : count ≤ 2
-  pub heard : eqb count 0 ≡ not (known code)
+pub record Capitals (code : ℕ) (answer : Option Capital) : Type 0 where
+  pub bytes : told answer ≡ capital code
+  pub most : length (told answer) ≤ 2
+  pub heard : is_some answer ≡ known code

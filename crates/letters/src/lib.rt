@@ -3,14 +3,24 @@
 #![tactic(auto)]
 
 ghost use Rattle.std.specs.Prelude.{◌≡◌, ◌<◌, ◌≤◌};
-ghost use Rattle.letters.specs.Letters.{flipped, entry_bytes, entry_for, cyrillic_capital, Capitals};
+ghost use Rattle.letters.specs.Letters.{flipped, entry_bytes, entry_for, cyrillic_capital, bytes_of, Capitals};
 
-// The bytes that stand for a first character; none if it is not known.
+// The bytes that stand for a first character.
 #[derive(Clone, Copy)]
-pub struct Capital {
-    pub count: usize,
-    pub first: u8,
-    pub second: u8,
+pub enum Capital {
+    One([u8; 1]),
+    Two([u8; 2]),
+}
+
+impl Capital {
+    pub fn bytes(&self) -> &[u8]
+        ensures { result.now ≡ bytes_of self.now }
+    {
+        match self {
+            Capital::One(bytes) => bytes,
+            Capital::Two(bytes) => bytes,
+        }
+    }
 }
 
 // The bytes of each entry's capitals, the first in the high half: U+0080 to U+00FF.
@@ -59,45 +69,17 @@ fn cyrillic_capital(code: u32) -> u32
     code - 0x50
 }
 
-fn unknown() -> Capital
-    ensures { (result.count ≡ 0) × (result.first ≡ 0) × (result.second ≡ 0) }
+// The capitals of a code point; none if it is not known.
+pub fn capital_of(code: u32) -> Option<Capital>
+    ensures { Capitals code result }
 {
-    Capital {
-        count: 0,
-        first: 0,
-        second: 0,
+    match code {
+        ..=0x7F => Some(Capital::One([flip(code as u8)])),
+        0x80..=0xFF => Some(Capital::Two(entry((code - 0x80) as usize).to_be_bytes())),
+        0x400..=0x45F => {
+            let c = cyrillic_capital(code);
+            Some(Capital::Two([(0xC0 + c / 64) as u8, (0x80 + c % 64) as u8]))
+        }
+        _ => None,
     }
-}
-
-// The capitals of a code point.
-pub fn capital_of(code: u32) -> Capital
-    ensures { Capitals code result.count result.first result.second }
-{
-    if code < 0x80 {
-        return Capital {
-            count: 1,
-            first: flip(code as u8),
-            second: 0,
-        };
-    }
-    if code <= 0xFF {
-        let x = entry((code - 0x80) as usize);
-        return Capital {
-            count: 2,
-            first: (x / 256) as u8,
-            second: (x % 256) as u8,
-        };
-    }
-    if code < 0x400 {
-        return unknown();
-    }
-    if code <= 0x45F {
-        let c = cyrillic_capital(code);
-        return Capital {
-            count: 2,
-            first: (0xC0 + c / 64) as u8,
-            second: (0x80 + c % 64) as u8,
-        };
-    }
-    unknown()
 }

@@ -6,65 +6,49 @@
 
 #![tactic(auto)]
 
-ghost use Rattle.std.specs.Prelude.{◌≡◌, Bool, ℕ, length};
+ghost use Rattle.std.specs.Prelude.{◌≡◌, ℕ, ◌+◌, ◌≤◌, length, take, drop, is_some};
 ghost use Rattle.lookup.specs.Parts.{spells, spelling_of, number_of, PartIn, PartOf};
 
 use names::words::cell;
 
-// A part of a text, and whether there is one; where there is none it is empty.
+// A part of a text.
 #[derive(Clone, Copy)]
 pub struct Part {
-    pub there: bool,
     pub start: usize,
     pub bytes: usize,
 }
 
 impl Part {
-    // 18 where there is none, else 0.
-    pub fn refusal(self) -> u32
-        ensures { result ≡ number_of self.there }
+    // Its bytes.
+    fn of(self, text: &[u8]) -> &[u8]
+        requires { self.start + self.bytes ≤ length text.now }
+        ensures { result.now ≡ take self.bytes (drop self.start text.now) }
     {
-        if self.there {
-            return 0;
-        }
-        18
-    }
-}
-
-fn none() -> Part
-    ensures { (result.there ≡ Bool.false) × (result.start ≡ 0) × (result.bytes ≡ 0) }
-{
-    Part {
-        there: false,
-        start: 0,
-        bytes: 0,
+        &text[self.start..self.start + self.bytes]
     }
 }
 
 // The part of the text that pair `number`, from 1, names.
-fn part_in(pairs: &[u8], text: &[u8], number: usize) -> Part
-    ensures { PartIn pairs.now text.now number result.there result.start result.bytes }
+#[tactic(auto, unfolding(crate::specs::Parts::lies))]
+fn part_in(pairs: &[u8], text: &[u8], number: usize) -> Option<Part>
+    ensures { PartIn pairs.now text.now number result }
 {
     if number == 0 {
-        return none();
+        return None;
     }
     if pairs.len() / 8 < number {
-        return none();
+        return None;
     }
     let at = 2 * (number - 1);
     let start = cell(pairs, at);
     let bytes = cell(pairs, at + 1);
     if text.len() < start + bytes {
-        return none();
+        return None;
     }
-    Part {
-        there: true,
-        start,
-        bytes,
-    }
+    Some(Part { start, bytes })
 }
 
-// The part that an Ident of that attr and number names; which text it is a part of goes by the attr.
+// The part that an Ident of that attr and number names, if it has a spelling; which text it is a part of goes by the attr.
 pub fn part_of(
     attr: u32,
     number: u32,
@@ -72,16 +56,14 @@ pub fn part_of(
     text: &[u8],
     made_pairs: &[u8],
     made_text: &[u8],
-) -> Part
-    ensures { PartOf attr number names.now text.now made_pairs.now made_text.now result.there result.start result.bytes }
+) -> Option<Part>
+    ensures { PartOf attr number names.now text.now made_pairs.now made_text.now result }
 {
-    if attr == 0 {
-        return part_in(names, text, number as usize);
+    match attr {
+        0 => part_in(names, text, number as usize),
+        1 => part_in(made_pairs, made_text, number as usize),
+        _ => None,
     }
-    if attr == 1 {
-        return part_in(made_pairs, made_text, number as usize);
-    }
-    none()
 }
 
 // The spelling of an Ident of that attr and number; empty where it has none.
@@ -95,16 +77,21 @@ pub fn spelling<'a>(
 ) -> &'a [u8]
     ensures { result.now ≡ spelling_of attr number names.now text.now made_pairs.now made_text.now }
 {
-    let part = part_of(attr, number, names, text, made_pairs, made_text);
-    let start = part.start;
-    let end = start + part.bytes;
+    let Some(part) = part_of(attr, number, names, text, made_pairs, made_text) else {
+        return &text[..0];
+    };
     if attr == 0 {
-        return &text[start..end];
+        part.of(text)
+    } else {
+        part.of(made_text)
     }
-    if attr == 1 {
-        return &made_text[start..end];
-    }
-    &text[..0]
+}
+
+// The request's number of a part that an Ident names, as the C entry tells it: 18 where there is none, else 0.
+pub fn refusal(part: Option<Part>) -> u32
+    ensures { result ≡ number_of (is_some part) }
+{
+    if part.is_some() { 0 } else { 18 }
 }
 
 // The check beside it: 18 where an Ident of that attr and number has no spelling, else 0.
@@ -118,5 +105,5 @@ pub fn unspelled(
 ) -> u32
     ensures { result ≡ number_of (spells attr number names.now text.now made_pairs.now made_text.now) }
 {
-    part_of(attr, number, names, text, made_pairs, made_text).refusal()
+    refusal(part_of(attr, number, names, text, made_pairs, made_text))
 }

@@ -15,14 +15,14 @@ use Rattle.decimal.specs.Decimal.{Wrote}
 use Rattle.decimal.proofs.Writing.{sets-front}
 use Rattle.base_text.specs.Bindings.{records_in}
 use Rattle.base_text.specs.Refusals.{base_text}
+use Rattle.std.specs.Prelude.{Ok, Err}
 use Rattle.base_text.specs.declared.Refusal.TheVariants.{NoRoom}
 use Rattle.candidates.specs.Candidates.{candidate}
 use Rattle.candidates.specs.MadeNames.{made_names}
 use Rattle.numbers.specs.Entries.{made_from}
 use Rattle.numbers.specs.Tables.{Numbered}
-use Rattle.made_names.specs.Naming.{fitted, Makes}
+use Rattle.made_names.specs.Naming.{counts, fitted, Makes}
 use Rattle.made_names.specs.Laying.{Laid}
-use Rattle.made_names.specs.declared.Naming.{Naming}
 
 -- The loop, with the names of k bindings written up to byte `at`: what is left to be written gives what there was to write.
 pub record Writing (bindings names text numbers pairs₀ pairs out₀ out : List ℕ) (at k : ℕ) : Type 0 where
@@ -101,11 +101,11 @@ module _ (bindings names text : List ℕ) {bytes : ℕ} {numbers : List ℕ} (N 
   count : length (made_names bindings names text) ≡ records_in bindings
   count = sym (ap length N.made) ∙ made-long 1 (records_in bindings)
 
-  pub no_pairs : (pairs out : List ℕ) → length pairs / 8 < records_in bindings → Makes (Naming.Refused NoRoom) (fitted (length pairs) (length out) (made_names bindings names text)) (made_names bindings names text) pairs pairs out out
+  pub no_pairs : (pairs out : List ℕ) → length pairs / 8 < records_in bindings → Makes (Err NoRoom) (fitted (length pairs) (length out) (made_names bindings names text)) (made_names bindings names text) pairs pairs out out
   no_pairs pairs out l = record { right = rw (lt-leb (length (made_names bindings names text)) (length pairs / 8) (omega (arith, count))); pairs_left = refl; text_left = refl }
 
   pub no_text : (pairs out : List ℕ) → records_in bindings ≤ length pairs / 8 → length out < bytes
-      → Makes (Naming.Refused NoRoom) (fitted (length pairs) (length out) (made_names bindings names text)) (made_names bindings names text) pairs pairs out out
+      → Makes (Err NoRoom) (fitted (length pairs) (length out) (made_names bindings names text)) (made_names bindings names text) pairs pairs out out
   no_text pairs out l k =
       record {
         right = rw (le-leb (length (made_names bindings names text)) (length pairs / 8) (omega (arith, count)), lt-leb (length (joined (made_names bindings names text))) (length out) (omega (arith, N.counted)));
@@ -117,7 +117,7 @@ module _ (bindings names text : List ℕ) {bytes : ℕ} {numbers : List ℕ} (N 
   front_of bs o n q l = sets-front bs o (omega (arith, q)) ∙ ap (λ (m : ℕ). bs ++ drop m o) q ∙ ap (λ (x : List ℕ). x ++ drop n o) (sym (take_all n bs (omega (arith, q))))
 
   pub all_made : {pairs pairs' out out' : List ℕ} → records_in bindings ≤ length pairs / 8 → bytes ≤ length out → Laid bindings names text numbers pairs pairs' out out' → (n m : ℕ) → n ≡ records_in bindings → m ≡ bytes
-      → Makes (Naming.Made n m) (fitted (length pairs) (length out) (made_names bindings names text)) (made_names bindings names text) pairs pairs' out out'
+      → Makes (Ok (counts n m)) (fitted (length pairs) (length out) (made_names bindings names text)) (made_names bindings names text) pairs pairs' out out'
   all_made {pairs} {pairs'} {out} {out'} l k L n m a b =
       let c : n ≡ length (made_names bindings names text) = a ∙ sym count in
       let d : m ≡ length (joined (made_names bindings names text)) = b ∙ N.counted in

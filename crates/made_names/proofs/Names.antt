@@ -17,17 +17,18 @@ use Rattle.names.proofs.Storing.{length-bytes, words_before}
 use Rattle.names.proofs.Laying.{pairs_long, laid_name, laid_part, laid_within}
 use Rattle.spelling.proofs.Hashing.{same_self}
 use Rattle.base_text.specs.Bindings.{records_in}
-use Rattle.base_text.specs.Refusals.{base_text, front_of}
+use Rattle.base_text.specs.Refusals.{base_text, unless, front_of}
+use Rattle.std.specs.Prelude.{Result, Ok, Err}
+use Rattle.base_text.specs.declared.Refusal.{Refusal}
 use Rattle.base_text.specs.declared.Refusal.TheVariants.{NoRoom}
-use Rattle.base_text.specs.declared.Tested.{Tested}
 use Rattle.candidates.specs.Candidates.{candidate, taken, made_name, make_all}
 use Rattle.candidates.specs.MadeNames.{names_from, names_of, bases_from, bases_of, made_names, taken_for, behind_of}
 use Rattle.candidates.specs.Faults.{first_fault}
 use Rattle.candidates.proofs.Laws.{frees, bound, at_least_one, smallest}
 use Rattle.numbers.proofs.Making.{names_long}
 use Rattle.lookup.specs.Parts.{lies, spells, spelling_of, part_of}
-use Rattle.made_names.specs.Naming.{pair_count, byte_count, unless, fits, named, Makes}
-use Rattle.made_names.specs.declared.Naming.{Naming}
+use Rattle.made_names.specs.Naming.{counts, pair_count, byte_count, fits, named, Makes}
+use Rattle.made_names.specs.declared.Made.{Made}
 
 -- What stands in a list is taken by it.
 taken-has : (ts : List (List ℕ)) (k : ℕ) → k < length ts → taken ts (get_or ts k []) ≡ true
@@ -184,23 +185,23 @@ name-spelled names text k t =
     (p, leb-true k (names_in names) (and_right (ltb 0 k) (leb k (names_in names)) a), rw (t, ne_eqb k 0 (λ z. omega arith)))
 
 -- An acceptance counts the made names and their bytes.
-module _ (bindings names text : List ℕ) (pair_room text_room pairs bytes : ℕ) (answer : Naming) (right : answer ≡ named bindings names text pair_room text_room) (yes : answer ≡ Naming.Made pairs bytes) where
+module _ (bindings names text : List ℕ) (pair_room text_room pairs bytes : ℕ) (answer : Result Made Refusal) (right : answer ≡ named bindings names text pair_room text_room) (yes : answer ≡ Ok (counts pairs bytes)) where
   pub made_counts : (pairs ≡ length (made_names bindings names text)) × (bytes ≡ length (joined (made_names bindings names text)))
   unfolding named
   made_counts =
       let made = made_names bindings names text in
       go (length made) (length (joined made)) (front_of bindings names text) (first_fault bindings names text) (fits pair_room text_room made) (sym yes ∙ right)
     where
-      go : (x y : ℕ) (f g : Tested) (b : Bool) → Naming.Made pairs bytes ≡ unless f (unless g (cond b (Naming.Made x y) (Naming.Refused NoRoom))) → (pairs ≡ x) × (bytes ≡ y)
-      go x y Tested.Passed Tested.Passed true e = (cc, cc)
-      go x y Tested.Passed Tested.Passed false e = absurd (let z : ◌≡◌ {A = ℕ} 0 1 = cc in omega arith)
-      go x y Tested.Passed (Tested.Refused r) b e = absurd (let z : ◌≡◌ {A = ℕ} 0 1 = cc in omega arith)
-      go x y (Tested.Refused r) g b e = absurd (let z : ◌≡◌ {A = ℕ} 0 1 = cc in omega arith)
+      go : (x y : ℕ) (f g : Result (Unit {0}) Refusal) (b : Bool) → Ok (counts pairs bytes) ≡ unless f (unless g (cond b (Ok (counts x y)) (Err NoRoom))) → (pairs ≡ x) × (bytes ≡ y)
+      go x y (Ok p) (Ok q) true e = (ap pair_count e, ap byte_count e)
+      go x y (Ok p) (Ok q) false e = cc
+      go x y (Ok p) (Err r) b e = cc
+      go x y (Err r) g b e = cc
 
 -- "The spelling of an Ident is handed back as a part of the script's text or of the made text": where the maker has answered, an Ident of attr 1 and number b is spelled as binding b is named.
-module _ (bindings names text : List ℕ) {answer : Naming} {lent lent' out out' : List ℕ}
+module _ (bindings names text : List ℕ) {answer : Result Made Refusal} {lent lent' out out' : List ℕ}
     (M : Makes answer (named bindings names text (length lent) (length out)) (made_names bindings names text) lent lent' out out')
-    (pairs bytes : ℕ) (yes : answer ≡ Naming.Made pairs bytes) where
+    (pairs bytes : ℕ) (yes : answer ≡ Ok (counts pairs bytes)) where
   -- the pairs and the text stand at the front
   pub pairs_front : lent' ≡ word_bytes (pairs_from 0 (made_names bindings names text)) ++ drop (8 * pairs) lent
   pairs_front =

@@ -1,50 +1,49 @@
 -- The maker of names: what it answers for every input, and what it leaves in what was lent. "Made names go into a second lent text with pairs of their own, in binding order and without gaps." Assumes nothing.
-use Rattle.std.specs.Prelude.{ℕ, ◌*◌, ◌/◌, ◌≡◌, Bool, cond, ◌&&◌, List, ◌++◌, length, take, drop, leb}
+use Rattle.std.specs.Prelude.{ℕ, ◌*◌, ◌/◌, ◌≡◌, Bool, cond, ◌&&◌, List, ◌++◌, length, take, drop, leb, Result, Ok, Err}
 use Rattle.names.specs.Bytes.{bytes_of}
 use Rattle.names.specs.Laid.{joined, pairs_from}
-use Rattle.base_text.specs.Refusals.{number_of, place_of, front_of}
+use Rattle.base_text.specs.Refusals.{number_of, place_of, unless, front_of}
+use Rattle.base_text.specs.declared.Refusal.{Refusal}
 use Rattle.base_text.specs.declared.Refusal.TheVariants.{NoRoom}
-use Rattle.base_text.specs.declared.Tested.{Tested}
 use Rattle.candidates.specs.MadeNames.{made_names}
 use Rattle.candidates.specs.Faults.{first_fault}
-use Rattle.made_names.specs.declared.Naming.{Naming}
+use Rattle.made_names.specs.declared.Made.{Made}
+
+-- so many pairs and bytes
+abbrev pub counts : (pairs bytes : ℕ) → Made
+counts pairs bytes = record { pairs = pairs; bytes = bytes }
 
 -- The number of an answer, its place, and its counts of pairs and of bytes; a refusal's are base text's. "Every refusal has zero counts"; "an acceptance has number 0, place 0".
-abbrev pub naming_number : Naming → ℕ
-naming_number (Naming.Made pairs bytes) = 0
-naming_number (Naming.Refused refusal) = number_of refusal
+abbrev pub naming_number : Result Made Refusal → ℕ
+naming_number (Ok made) = 0
+naming_number (Err refusal) = number_of refusal
 
-abbrev pub naming_place : Naming → ℕ
-naming_place (Naming.Made pairs bytes) = 0
-naming_place (Naming.Refused refusal) = place_of refusal
+abbrev pub naming_place : Result Made Refusal → ℕ
+naming_place (Ok made) = 0
+naming_place (Err refusal) = place_of refusal
 
-abbrev pub pair_count : Naming → ℕ
-pair_count (Naming.Made pairs bytes) = pairs
-pair_count (Naming.Refused refusal) = 0
+abbrev pub pair_count : Result Made Refusal → ℕ
+pair_count (Ok made) = made.pairs
+pair_count (Err refusal) = 0
 
-abbrev pub byte_count : Naming → ℕ
-byte_count (Naming.Made pairs bytes) = bytes
-byte_count (Naming.Refused refusal) = 0
-
--- a refusal, or what is answered where the test was passed
-abbrev pub unless : Tested → Naming → Naming
-unless Tested.Passed answer = answer
-unless (Tested.Refused refusal) answer = Naming.Refused refusal
+abbrev pub byte_count : Result Made Refusal → ℕ
+byte_count (Ok made) = made.bytes
+byte_count (Err refusal) = 0
 
 -- not 9: "where made text or pairs have no room". A pair has 8 bytes
 abbrev pub fits : (pair_room text_room : ℕ) (made : List (List ℕ)) → Bool
 fits pair_room text_room made = leb (length made) (pair_room / 8) && leb (length (joined made)) text_room
 
-abbrev pub fitted : (pair_room text_room : ℕ) (made : List (List ℕ)) → Naming
-fitted pair_room text_room made = cond (fits pair_room text_room made) (Naming.Made (length made) (length (joined made))) (Naming.Refused NoRoom)
+abbrev pub fitted : (pair_room text_room : ℕ) (made : List (List ℕ)) → Result Made Refusal
+fitted pair_room text_room made = cond (fits pair_room text_room made) (Ok (counts (length made) (length (joined made)))) (Err NoRoom)
 
 -- the answer, with so many bytes lent for pairs and for text: "base text's 1 and 4, with no binding too, then 11 or 10 at the first binding that meets one; 9 .. tested last"
-unfoldable pub named : (bindings names text : List ℕ) (pair_room text_room : ℕ) → Naming
+unfoldable pub named : (bindings names text : List ℕ) (pair_room text_room : ℕ) → Result Made Refusal
 named bindings names text pair_room text_room =
     unless (front_of bindings names text) (unless (first_fault bindings names text) (fitted pair_room text_room (made_names bindings names text)))
 
 -- What an answer leaves in what was lent: the counted pairs and bytes at the front, all else as it was.
-pub record Makes (answer expected : Naming) (made : List (List ℕ)) (pairs pairs' text text' : List ℕ) : Type 0 where
+pub record Makes (answer expected : Result Made Refusal) (made : List (List ℕ)) (pairs pairs' text text' : List ℕ) : Type 0 where
   pub right : answer ≡ expected
   pub pairs_left : pairs' ≡ take (8 * pair_count answer) (bytes_of (pairs_from 0 made)) ++ drop (8 * pair_count answer) pairs
   pub text_left : text' ≡ take (byte_count answer) (joined made) ++ drop (byte_count answer) text

@@ -14,35 +14,28 @@ ghost use Rattle.std.specs.Prelude.{length};
 ghost use Rattle.candidates.specs.MadeNames.{made_names};
 ghost use Rattle.made_names.specs.Naming.{named, Makes};
 
-use base_text::{Refusal, Tested};
+use base_text::{Refusal, Script};
+use candidates::Checked;
 
-// What the maker of names answers.
+// How many pairs and bytes the maker of names has written.
 #[derive(Clone, Copy)]
-pub enum Naming {
-    Made { pairs: u32, bytes: u32 },
-    Refused(Refusal),
+pub struct Made {
+    pub pairs: u32,
+    pub bytes: u32,
 }
 
 // Writes the name of each binding to the front of `out_text`, and where it starts and how long it is to
-// the front of `out_pairs`. Any answer but Made leaves both as they were. Refusals 1, 4, 11, 10 and 9.
+// the front of `out_pairs`. An error leaves both as they were. Refusals 1, 4, 11, 10 and 9.
 pub fn make_names(
-    bindings: &[u8],
-    names: &[u8],
-    text: &[u8],
+    script: Script,
     out_pairs: &mut [u8],
     out_text: &mut [u8],
-) -> Naming
-    ensures { Makes result (named bindings.now names.now text.now (length out_pairs.old) (length out_text.old))
-        (made_names bindings.now names.now text.now)
+) -> Result<Made, Refusal>
+    ensures { Makes result (named script.entry.bindings.now script.entry.names.now script.entry.text.now (length out_pairs.old) (length out_text.old))
+        (made_names script.entry.bindings.now script.entry.names.now script.entry.text.now)
         out_pairs.old out_pairs.new out_text.old out_text.new }
 {
-    let tested = base_text::front(bindings, names, text);
-    if let Tested::Refused(refusal) = tested {
-        return Naming::Refused(refusal);
-    }
-    let fault = candidates::first_fault(bindings, names, text);
-    if let Tested::Refused(refusal) = fault {
-        return Naming::Refused(refusal);
-    }
-    sizes::over(256, bindings, names, text, out_pairs, out_text)
+    base_text::front(script)?;
+    candidates::first_fault(script)?;
+    sizes::over(256, Checked { script }, out_pairs, out_text)
 }

@@ -3,132 +3,36 @@ ghost use Rattle.std.specs.Prelude.{ℕ, ◌+◌, ◌≤◌, ◌<◌, length};
 ghost use Rattle.names.specs.Words.{names_in};
 ghost use Rattle.base_text.specs.Bindings.{records_in};
 ghost use Rattle.candidates.specs.MadeNames.{made_names};
-ghost use Rattle.candidates.specs.Faults.{Sound};
 ghost use Rattle.made_names.specs.Naming.{fitted, Makes};
 
-use crate::Naming;
+use crate::Made;
 use crate::write::name_all;
-use base_text::records_in;
+use base_text::{Refusal, records_in};
+use candidates::Checked;
 
-// Fewer than 256 names and bindings,
-fn below_256(
-    bindings: &[u8],
-    names: &[u8],
-    text: &[u8],
+// Fewer than N names and bindings, in L buckets. Not inlined, so that the tables of each size stay in a frame of their own.
+#[inline(never)]
+fn below<const L: usize, const N: usize>(
+    checked: Checked,
     out_pairs: &mut [u8],
     out_text: &mut [u8],
-) -> Naming
-    requires sound { Sound bindings.now names.now text.now }
-    requires bindings_bound { names_in names.now + records_in bindings.now < 256 }
-    ensures { Makes result (fitted (length out_pairs.old) (length out_text.old) (made_names bindings.now names.now text.now))
-        (made_names bindings.now names.now text.now)
+) -> Result<Made, Refusal>
+    requires sizes { (0 < L) × (L ≤ 69632) × (N ≤ 69632) }
+    requires bindings_bound { names_in checked.script.names.now + records_in checked.script.bindings.now < N }
+    ensures { Makes result (fitted (length out_pairs.old) (length out_text.old) (made_names checked.entry.script.bindings.now checked.entry.script.names.now checked.entry.script.text.now))
+        (made_names checked.entry.script.bindings.now checked.entry.script.names.now checked.entry.script.text.now)
         out_pairs.old out_pairs.new out_text.old out_text.new }
 {
-    let mut lasts = [0u32; 256];
-    let mut befores = [0u32; 256];
-    let mut reached = [0u32; 256];
-    let mut numbers = [0u32; 256];
+    let mut lasts = [0u32; L];
+    let mut befores = [0u32; N];
+    let mut reached = [0u32; N];
+    let mut numbers = [0u32; N];
     name_all(
         &mut lasts,
         &mut befores,
         &mut reached,
         &mut numbers,
-        bindings,
-        names,
-        text,
-        out_pairs,
-        out_text,
-    )
-}
-
-// fewer than 2,304,
-fn below_2304(
-    bindings: &[u8],
-    names: &[u8],
-    text: &[u8],
-    out_pairs: &mut [u8],
-    out_text: &mut [u8],
-) -> Naming
-    requires sound { Sound bindings.now names.now text.now }
-    requires bindings_bound { names_in names.now + records_in bindings.now < 2304 }
-    ensures { Makes result (fitted (length out_pairs.old) (length out_text.old) (made_names bindings.now names.now text.now))
-        (made_names bindings.now names.now text.now)
-        out_pairs.old out_pairs.new out_text.old out_text.new }
-{
-    let mut lasts = [0u32; 2304];
-    let mut befores = [0u32; 2304];
-    let mut reached = [0u32; 2304];
-    let mut numbers = [0u32; 2304];
-    name_all(
-        &mut lasts,
-        &mut befores,
-        &mut reached,
-        &mut numbers,
-        bindings,
-        names,
-        text,
-        out_pairs,
-        out_text,
-    )
-}
-
-// fewer than 20,736, which is every list that convert makes,
-fn below_20736(
-    bindings: &[u8],
-    names: &[u8],
-    text: &[u8],
-    out_pairs: &mut [u8],
-    out_text: &mut [u8],
-) -> Naming
-    requires sound { Sound bindings.now names.now text.now }
-    requires bindings_bound { names_in names.now + records_in bindings.now < 20736 }
-    ensures { Makes result (fitted (length out_pairs.old) (length out_text.old) (made_names bindings.now names.now text.now))
-        (made_names bindings.now names.now text.now)
-        out_pairs.old out_pairs.new out_text.old out_text.new }
-{
-    let mut lasts = [0u32; 20736];
-    let mut befores = [0u32; 20736];
-    let mut reached = [0u32; 20736];
-    let mut numbers = [0u32; 20736];
-    name_all(
-        &mut lasts,
-        &mut befores,
-        &mut reached,
-        &mut numbers,
-        bindings,
-        names,
-        text,
-        out_pairs,
-        out_text,
-    )
-}
-
-// and as many as there may be, with fewer buckets, so that the stack stays below 1 MiB.
-fn below_69632(
-    bindings: &[u8],
-    names: &[u8],
-    text: &[u8],
-    out_pairs: &mut [u8],
-    out_text: &mut [u8],
-) -> Naming
-    requires sound { Sound bindings.now names.now text.now }
-    requires bindings_bound { names_in names.now + records_in bindings.now < 69632 }
-    ensures { Makes result (fitted (length out_pairs.old) (length out_text.old) (made_names bindings.now names.now text.now))
-        (made_names bindings.now names.now text.now)
-        out_pairs.old out_pairs.new out_text.old out_text.new }
-{
-    let mut lasts = [0u32; 16384];
-    let mut befores = [0u32; 69632];
-    let mut reached = [0u32; 69632];
-    let mut numbers = [0u32; 69632];
-    name_all(
-        &mut lasts,
-        &mut befores,
-        &mut reached,
-        &mut numbers,
-        bindings,
-        names,
-        text,
+        checked,
         out_pairs,
         out_text,
     )
@@ -138,30 +42,29 @@ fn below_69632(
 // leaves the tables of each size in a frame of their own: joined, every call would touch the largest.
 pub fn over(
     size: usize,
-    bindings: &[u8],
-    names: &[u8],
-    text: &[u8],
+    checked: Checked,
     out_pairs: &mut [u8],
     out_text: &mut [u8],
-) -> Naming
-    requires sound { Sound bindings.now names.now text.now }
-    requires size_nonzero { 0 < size }
-    ensures { Makes result (fitted (length out_pairs.old) (length out_text.old) (made_names bindings.now names.now text.now))
-        (made_names bindings.now names.now text.now)
+) -> Result<Made, Refusal>
+    requires { 0 < size }
+    ensures { Makes result (fitted (length out_pairs.old) (length out_text.old) (made_names checked.entry.script.bindings.now checked.entry.script.names.now checked.entry.script.text.now))
+        (made_names checked.entry.script.bindings.now checked.entry.script.names.now checked.entry.script.text.now)
         out_pairs.old out_pairs.new out_text.old out_text.new }
 {
-    if size <= names.len() / 8 + records_in(bindings) {
+    if size <= checked.script.names.len() / 8 + records_in(checked.script.bindings) {
         let more = 9 * size;
-        return over(more, bindings, names, text, out_pairs, out_text);
+        return over(more, checked, out_pairs, out_text);
     }
     if size <= 256 {
-        return below_256(bindings, names, text, out_pairs, out_text);
+        return below::<256, 256>(checked, out_pairs, out_text);
     }
     if size <= 2304 {
-        return below_2304(bindings, names, text, out_pairs, out_text);
+        return below::<2304, 2304>(checked, out_pairs, out_text);
     }
+    // Every list that convert makes.
     if size <= 20736 {
-        return below_20736(bindings, names, text, out_pairs, out_text);
+        return below::<20736, 20736>(checked, out_pairs, out_text);
     }
-    below_69632(bindings, names, text, out_pairs, out_text)
+    // As many as there may be, with fewer buckets, so that the stack stays below 1 MiB.
+    below::<16384, 69632>(checked, out_pairs, out_text)
 }

@@ -1,9 +1,8 @@
 -- "A name is 1.. into pairs (start, length) over a UTF-8 text, 0 for none. Names are compared by bytes." Assumes nothing.
-use Rattle.std.specs.Prelude.{ℕ, ◌+◌, ◌*◌, ◌-◌, ◌%◌, ◌≤◌, ◌<◌, ◌≡◌, Bool, true, false, cond, ◌||◌, ◌&&◌, not, List, [], ◌∷◌, get_or, length, take, drop, leb, ltb, eqb}
+use Rattle.std.specs.Prelude.{ℕ, ◌+◌, ◌*◌, ◌-◌, ◌%◌, ◌≤◌, ◌<◌, ◌≡◌, Bool, true, false, cond, ◌||◌, ◌&&◌, not, List, [], ◌∷◌, get_or, length, take, drop, leb, ltb, eqb, Option}
 use Rattle.names.specs.Words.{words, names_in}
 use Rattle.names.specs.Utf8.{utf8}
 use Rattle.names.specs.First.{first}
-use Rattle.names.specs.declared.Found.{Found}
 
 -- where name k, from 1, starts in the text, and its length in bytes
 abbrev pub start_of : List ℕ → ℕ → ℕ
@@ -45,7 +44,7 @@ bad_name names text k =
     || not (utf8 (take (length_of names k) (drop (start_of names k) text)))
 
 -- "first bad name"
-unfoldable pub first_bad_name : (names text : List ℕ) → Found
+unfoldable pub first_bad_name : (names text : List ℕ) → Option ℕ
 first_bad_name names text = first (bad_name names text) (names_in names) 1
 
 -- what refusal 4 leaves of name k: it lies in the text, has 1 to 255 bytes, and is UTF-8

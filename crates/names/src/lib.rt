@@ -12,13 +12,6 @@ ghost use Rattle.names.specs.Names.{names_fit, bad_name, first_bad_name};
 use crate::utf8::is_utf8;
 use crate::words::cell;
 
-// The lowest number of which a test holds, where there is one.
-#[derive(Clone, Copy)]
-pub enum Found {
-    At(usize),
-    Nothing,
-}
-
 // Whether names and text of these many bytes are whole pairs, and not too many.
 pub fn names_fit(names: usize, text: usize) -> bool
     ensures { result ≡ names_fit names text }
@@ -46,17 +39,10 @@ fn bad_name(names: &[u8], text: &[u8], k: usize) -> bool
 }
 
 // Refusal 4: the first bad name, from 1.
-pub fn first_bad_name(names: &[u8], text: &[u8]) -> Found
+pub fn first_bad_name(names: &[u8], text: &[u8]) -> Option<usize>
     requires { length names.now ≤ 32768 }
     ensures { result ≡ first_bad_name names.now text.now }
 {
     let count = names.len() / 8;
-    let mut k: usize = 1;
-    while k <= count {
-        if bad_name(names, text, k) {
-            return Found::At(k);
-        }
-        k += 1;
-    }
-    Found::Nothing
+    (1..count + 1).find(|k| bad_name(names, text, *k))
 }

@@ -24,15 +24,9 @@ ghost use Rattle.numbers.specs.Entries.{entry_at, entries};
 ghost use Rattle.numbers.specs.Tables.{is_text, Seeking, Reached, Stored, Found, Chosen, Entered, Numbering, Named, Empty, Numbered};
 
 use buckets::pick;
-use candidates::put_candidate;
+use candidates::{Checked, put_candidate};
 use names::words::cell;
 use spelling::{hash_bytes, is_spelled, same_bytes};
-
-fn wide(x: u32) -> usize
-    ensures { result ≡ x }
-{
-    x as usize
-}
 
 // Room for a made name, which has at most 281 bytes.
 fn name_room() -> [u8; 288]
@@ -49,143 +43,90 @@ fn bucket(x: &[u8], buckets: usize) -> usize
     hash_bytes(x) % buckets
 }
 
-// Whether entry e is x.
-fn is_entry(x: &[u8], e: usize, numbers: &[u32], bindings: &[u8], names: &[u8], text: &[u8]) -> bool
-    requires sound { Sound bindings.now names.now text.now }
-    requires e_nonzero { (0 < e) × ((e < length numbers.now) × (e ≤ names_in names.now + records_in bindings.now)) }
-    ensures { result ≡ same_bytes (entry_at bindings.now names.now text.now numbers.now e) x.now }
-{
-    let named = names.len() / 8;
-    if e <= named {
-        return is_spelled(names, text, e, x);
-    }
-    let mut name = name_room();
-    let end = put_candidate(
-        &mut name,
-        0,
-        (e - named) as u32,
-        numbers[e],
-        bindings,
-        names,
-        text,
-    );
-    same_bytes(&name[..end], x)
+// What is taken: the first `count` entries, by their buckets.
+#[derive(Clone, Copy)]
+struct Taken<'a> {
+    lasts: &'a [u32],
+    befores: &'a [u32],
+    numbers: &'a [u32],
+    count: usize,
+    checked: Checked<'a>,
+    ghost stored: { Stored checked.script.bindings.now checked.script.names.now checked.script.text.now lasts.now befores.now numbers.now count },
 }
 
-// The first entry that is x, 0 where there is none. The entries of its bucket are looked at one by one.
-fn find(
-    x: &[u8],
-    lasts: &[u32],
-    befores: &[u32],
-    numbers: &[u32],
-    count: usize,
-    bindings: &[u8],
-    names: &[u8],
-    text: &[u8],
-) -> usize
-    requires sound { Sound bindings.now names.now text.now }
-    requires stored { Stored bindings.now names.now text.now lasts.now befores.now numbers.now count }
-    ensures { (result ≡ first_where (is_text x.now) 1 (entries bindings.now names.now text.now numbers.now count)) × (result ≤ count) }
-{
-    let h = bucket(x, lasts.len());
-    let mut found: usize = 0;
-    let mut e = wide(lasts[h]);
-    while e != 0 {
-        let it = is_entry(x, e, numbers, bindings, names, text);
-        found = pick(it, e, found);
-        e = wide(befores[e]);
+impl Taken<'_> {
+    // Whether entry e is x.
+    fn is_entry(self, x: &[u8], e: usize) -> bool
+        requires { (0 < e) × (e ≤ self.count) }
+        ensures { result ≡ same_bytes (entry_at self.entry.checked.script.bindings.now self.entry.checked.script.names.now self.entry.checked.script.text.now self.entry.numbers.now e) x.now }
+    {
+        let script = self.checked.script;
+        let named = script.names.len() / 8;
+        if e <= named {
+            return is_spelled(script.names, script.text, e, x);
+        }
+        let mut name = name_room();
+        let end = put_candidate(&mut name, 0, (e - named) as u32, self.numbers[e], script);
+        same_bytes(&name[..end], x)
     }
-    found
-}
 
-// The same of the made name of binding b with the number n.
-fn find_candidate(
-    b: u32,
-    n: u32,
-    lasts: &[u32],
-    befores: &[u32],
-    numbers: &[u32],
-    count: usize,
-    bindings: &[u8],
-    names: &[u8],
-    text: &[u8],
-) -> usize
-    requires sound { Sound bindings.now names.now text.now }
-    requires stored { Stored bindings.now names.now text.now lasts.now befores.now numbers.now count }
-    requires b_nonzero { (0 < b) × (b ≤ records_in bindings.now) }
-    ensures { (result ≡ first_where (is_text (candidate (base_text b bindings.now names.now text.now) n)) 1
-        (entries bindings.now names.now text.now numbers.now count)) × (result ≤ count) }
-{
-    let mut name = name_room();
-    let end = put_candidate(&mut name, 0, b, n, bindings, names, text);
-    find(
-        &name[..end],
-        lasts,
-        befores,
-        numbers,
-        count,
-        bindings,
-        names,
-        text,
-    )
-}
-
-// The number that frees binding b's name, where all numbers below `from` are taken.
-fn free_number(
-    b: u32,
-    from: u32,
-    lasts: &[u32],
-    befores: &[u32],
-    numbers: &[u32],
-    count: usize,
-    bindings: &[u8],
-    names: &[u8],
-    text: &[u8],
-) -> u32
-    requires sound { Sound bindings.now names.now text.now }
-    requires stored { Stored bindings.now names.now text.now lasts.now befores.now numbers.now count }
-    requires b_nonzero { (0 < b) × (b ≤ records_in bindings.now) }
-    requires seeking { Seeking (entries bindings.now names.now text.now numbers.now count) (base_text b bindings.now names.now text.now) from }
-    ensures { result ≡ behind (entries bindings.now names.now text.now numbers.now count)
-        (base_text b bindings.now names.now text.now) }
-{
-    let mut n = from;
-    let mut e = find_candidate(b, n, lasts, befores, numbers, count, bindings, names, text);
-    while e != 0 {
-        n += 1;
-        e = find_candidate(b, n, lasts, befores, numbers, count, bindings, names, text);
+    // The first entry that is x, 0 where there is none, as in the tables and in `pick`: an Option would only turn that 0 back and
+    // forth. The entries of its bucket are looked at one by one.
+    fn find(self, x: &[u8]) -> usize
+        ensures { (result ≡ first_where (is_text x.now) 1 (entries self.entry.checked.script.bindings.now self.entry.checked.script.names.now self.entry.checked.script.text.now self.entry.numbers.now self.entry.count)) × (result ≤ self.entry.count) }
+    {
+        let h = bucket(x, self.lasts.len());
+        let mut found: usize = 0;
+        let mut e = self.lasts[h] as usize;
+        while e != 0 {
+            let it = self.is_entry(x, e);
+            found = pick(it, e, found);
+            e = self.befores[e] as usize;
+        }
+        found
     }
-    n
-}
 
-// The number behind binding b's name, 1 for none. Where its bare name is an entry, that entry keeps the number.
-fn choose(
-    b: u32,
-    lasts: &[u32],
-    befores: &[u32],
-    reached: &mut [u32],
-    numbers: &[u32],
-    count: usize,
-    bindings: &[u8],
-    names: &[u8],
-    text: &[u8],
-) -> u32
-    requires sound { Sound bindings.now names.now text.now }
-    requires stored { Stored bindings.now names.now text.now lasts.now befores.now numbers.now count }
-    requires b_nonzero { (0 < b) × (b ≤ records_in bindings.now) }
-    requires count_in_bounds { (count < length reached.old) × Reached reached.old (entries bindings.now names.now text.now numbers.now count) }
-    ensures { Chosen bindings.now names.now text.now numbers.now count b result reached.new }
-{
-    let bare = find_candidate(b, 1, lasts, befores, numbers, count, bindings, names, text);
-    if bare == 0 {
-        return 1;
+    // The same of the made name of binding b with the number n. Inlined, so that what is taken is not copied at each call.
+    #[inline(always)]
+    fn find_candidate(self, b: u32, n: u32) -> usize
+        requires { (0 < b) × (b ≤ records_in self.checked.script.bindings.now) }
+        ensures { (result ≡ first_where (is_text (candidate (base_text b self.entry.checked.script.bindings.now self.entry.checked.script.names.now self.entry.checked.script.text.now) n)) 1
+            (entries self.entry.checked.script.bindings.now self.entry.checked.script.names.now self.entry.checked.script.text.now self.entry.numbers.now self.entry.count)) × (result ≤ self.entry.count) }
+    {
+        let mut name = name_room();
+        let end = put_candidate(&mut name, 0, b, n, self.checked.script);
+        self.find(&name[..end])
     }
-    let from = reached[bare] + 1;
-    let n = free_number(
-        b, from, lasts, befores, numbers, count, bindings, names, text,
-    );
-    reached[bare] = n;
-    n
+
+    // The number that frees binding b's name, where all numbers below `from` are taken.
+    fn free_number(self, b: u32, from: u32) -> u32
+        requires b_nonzero { (0 < b) × (b ≤ records_in self.checked.script.bindings.now) }
+        requires seeking { Seeking (entries self.checked.script.bindings.now self.checked.script.names.now self.checked.script.text.now self.numbers.now self.count) (base_text b self.checked.script.bindings.now self.checked.script.names.now self.checked.script.text.now) from }
+        ensures { result ≡ behind (entries self.entry.checked.script.bindings.now self.entry.checked.script.names.now self.entry.checked.script.text.now self.entry.numbers.now self.entry.count)
+            (base_text b self.entry.checked.script.bindings.now self.entry.checked.script.names.now self.entry.checked.script.text.now) }
+    {
+        let mut n = from;
+        while self.find_candidate(b, n) != 0 {
+            n += 1;
+        }
+        n
+    }
+
+    // The number behind binding b's name, 1 for none. Where its bare name is an entry, that entry keeps the number.
+    fn choose(self, b: u32, reached: &mut [u32]) -> u32
+        requires b_nonzero { (0 < b) × (b ≤ records_in self.checked.script.bindings.now) }
+        requires count_in_bounds { (self.count < length reached.old) × Reached reached.old (entries self.checked.script.bindings.now self.checked.script.names.now self.checked.script.text.now self.numbers.now self.count) }
+        ensures { Chosen self.entry.checked.script.bindings.now self.entry.checked.script.names.now self.entry.checked.script.text.now self.entry.numbers.now self.entry.count b result reached.new }
+    {
+        let bare = self.find_candidate(b, 1);
+        if bare == 0 {
+            return 1;
+        }
+        let from = reached[bare] + 1;
+        let n = self.free_number(b, from);
+        reached[bare] = n;
+        n
+    }
 }
 
 // Puts entry e, which is x, into its bucket.
@@ -205,19 +146,16 @@ fn enter_candidate(
     e: usize,
     lasts: &mut [u32],
     befores: &mut [u32],
-    bindings: &[u8],
-    names: &[u8],
-    text: &[u8],
+    checked: Checked,
 ) -> usize
-    requires sound { Sound bindings.now names.now text.now }
-    requires b_nonzero { (0 < b) × (b ≤ records_in bindings.now) }
+    requires b_nonzero { (0 < b) × (b ≤ records_in checked.script.bindings.now) }
     requires lasts_nonzero { (0 < length lasts.old) × ((e < length befores.old) × (e < 2 ^ 32)) }
-    ensures value { (result ≡ length (candidate (base_text b bindings.now names.now text.now) n)) × (result ≤ 281) }
-    ensures entered { Entered (hash_of (candidate (base_text b bindings.now names.now text.now) n) % length lasts.old) e
+    ensures value { (result ≡ length (candidate (base_text b checked.entry.script.bindings.now checked.entry.script.names.now checked.entry.script.text.now) n)) × (result ≤ 281) }
+    ensures entered { Entered (hash_of (candidate (base_text b checked.entry.script.bindings.now checked.entry.script.names.now checked.entry.script.text.now) n) % length lasts.old) e
         lasts.old lasts.new befores.old befores.new }
 {
     let mut name = name_room();
-    let end = put_candidate(&mut name, 0, b, n, bindings, names, text);
+    let end = put_candidate(&mut name, 0, b, n, checked.script);
     enter(&name[..end], e, lasts, befores);
     end
 }
@@ -230,50 +168,48 @@ fn number_binding(
     befores: &mut [u32],
     reached: &mut [u32],
     numbers: &mut [u32],
-    bindings: &[u8],
-    names: &[u8],
-    text: &[u8],
+    checked: Checked,
 ) -> usize
-    requires sound { Sound bindings.now names.now text.now }
-    requires b_nonzero { (0 < b) × (b ≤ records_in bindings.now) × (count + 1 ≡ names_in names.now + b) }
-    requires numbering { Numbering bindings.now names.now text.now lasts.old befores.old reached.old numbers.old count }
-    ensures numbering_2 { Numbering bindings.now names.now text.now lasts.new befores.new reached.new numbers.new (count + 1) }
-    ensures named { Named bindings.now names.now text.now count b result numbers.old numbers.new }
+    requires b_nonzero { (0 < b) × (b ≤ records_in checked.script.bindings.now) × (count + 1 ≡ names_in checked.script.names.now + b) }
+    requires numbering { Numbering checked.script.bindings.now checked.script.names.now checked.script.text.now lasts.old befores.old reached.old numbers.old count }
+    ensures numbering_2 { Numbering checked.entry.script.bindings.now checked.entry.script.names.now checked.entry.script.text.now lasts.new befores.new reached.new numbers.new (count + 1) }
+    ensures named { Named checked.entry.script.bindings.now checked.entry.script.names.now checked.entry.script.text.now count b result numbers.old numbers.new }
 {
-    let n = choose(
-        b, lasts, befores, reached, numbers, count, bindings, names, text,
-    );
+    let taken = Taken {
+        lasts,
+        befores,
+        numbers,
+        count,
+        checked,
+    };
+    let n = taken.choose(b, reached);
     let e = count + 1;
     numbers[e] = n;
-    enter_candidate(b, n, e, lasts, befores, bindings, names, text)
+    enter_candidate(b, n, e, lasts, befores, checked)
 }
 
 // Puts name k, which is entry k, into its bucket.
-fn enter_name(k: usize, lasts: &mut [u32], befores: &mut [u32], names: &[u8], text: &[u8])
-    requires given_names { (GivenNames names.now text.now) × ((0 < k) × (k ≤ names_in names.now)) }
+fn enter_name(k: usize, lasts: &mut [u32], befores: &mut [u32], checked: Checked)
+    requires k_in_names { (0 < k) × (k ≤ names_in checked.script.names.now) }
     requires lasts_nonzero { (0 < length lasts.old) × ((k < length befores.old) × (k < 2 ^ 32)) }
-    ensures { Entered (hash_of (bytes_of names.now text.now k) % length lasts.old) k
+    ensures { Entered (hash_of (bytes_of checked.entry.script.names.now checked.entry.script.text.now k) % length lasts.old) k
         lasts.old lasts.new befores.old befores.new }
 {
     let pair = 2 * (k - 1);
-    let start = cell(names, pair);
-    let end = start + cell(names, pair + 1);
-    enter(&text[start..end], k, lasts, befores);
+    let start = cell(checked.script.names, pair);
+    let end = start + cell(checked.script.names, pair + 1);
+    enter(&checked.script.text[start..end], k, lasts, befores);
 }
 
 // Puts the names of the table into their buckets.
-fn enter_names(lasts: &mut [u32], befores: &mut [u32], names: &[u8], text: &[u8])
-    requires given_names { GivenNames names.now text.now }
-    requires lasts_nonzero { (0 < length lasts.old) × ((names_in names.now < length befores.old) × (names_in names.now < 2 ^ 32)) }
+fn enter_names(lasts: &mut [u32], befores: &mut [u32], checked: Checked)
+    requires lasts_nonzero { (0 < length lasts.old) × ((names_in checked.script.names.now < length befores.old) × (names_in checked.script.names.now < 2 ^ 32)) }
     requires found { Found lasts.old befores.old [] }
-    ensures { Found lasts.new befores.new (names_of names.now text.now) }
+    ensures { Found lasts.new befores.new (names_of checked.entry.script.names.now checked.entry.script.text.now) }
 {
-    let count = names.len() / 8;
-    let mut k: usize = 0;
-    while k < count {
-        let next = k + 1;
-        enter_name(next, lasts, befores, names, text);
-        k = next;
+    let count = checked.script.names.len() / 8;
+    for k in 0..count {
+        enter_name(k + 1, lasts, befores, checked);
     }
 }
 
@@ -284,34 +220,25 @@ pub fn number_all(
     befores: &mut [u32],
     reached: &mut [u32],
     numbers: &mut [u32],
-    bindings: &[u8],
-    names: &[u8],
-    text: &[u8],
+    checked: Checked,
 ) -> usize
-    requires sound { Sound bindings.now names.now text.now }
-    requires empty { Empty bindings.now names.now lasts.old befores.old reached.old numbers.old }
-    ensures { Numbered bindings.now names.now text.now result numbers.new }
+    requires empty { Empty checked.script.bindings.now checked.script.names.now lasts.old befores.old reached.old numbers.old }
+    ensures { Numbered checked.entry.script.bindings.now checked.entry.script.names.now checked.entry.script.text.now result numbers.new }
 {
-    enter_names(lasts, befores, names, text);
-    let named = names.len() / 8;
-    let count = base_text::records_in(bindings);
+    enter_names(lasts, befores, checked);
+    let named = checked.script.names.len() / 8;
+    let count = base_text::records_in(checked.script.bindings);
     let mut bytes: usize = 0;
-    let mut k: usize = 0;
-    while k < count {
-        let b = k + 1;
-        let more = number_binding(
-            b as u32,
+    for k in 0..count {
+        bytes += number_binding(
+            k as u32 + 1,
             named + k,
             lasts,
             befores,
             reached,
             numbers,
-            bindings,
-            names,
-            text,
+            checked,
         );
-        bytes += more;
-        k = b;
     }
     bytes
 }

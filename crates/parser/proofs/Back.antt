@@ -14,26 +14,24 @@ use Rattle.printer.specs.Print.{line, headed, row_lines}
 use Rattle.fields.specs.Fields.{push, split, lines, fields, row_of, digits_of, number, same_bytes, switches_ok}
 use Rattle.parser.specs.Parse.{Read.sheet, rows_from, words_from, has_rows, names_in, after_names, from_first, from_second, from_third, from_fourth, sheet_of}
 use Rattle.parser.specs.Sheet.{bit, name_lines, sheet_text, clear, Plain, Whole}
-use Rattle.fields.specs.declared.Number.TheVariants.{Value, Bad}
-use Rattle.fields.specs.declared.Row.TheVariants.{Words}
-use Rattle.parser.specs.declared.Lines.TheVariants.{Count}
+use Rattle.std.proofs.Common.{None, Some, Ok}
 use Rattle.decimal.proofs.Digits.{decimal-small, decimal-more}
 
 -- one more digit
-digit_one : (v d : ℕ) → d < 10 → v * 10 + d < 4294967296 → digits_of v ((48 + d) ∷ []) ≡ Value (v * 10 + d)
+digit_one : (v d : ℕ) → d < 10 → v * 10 + d < 4294967296 → digits_of v ((48 + d) ∷ []) ≡ Some (v * 10 + d)
 unfolding digits_of
 digit_one v d h k =
     let e : 48 + d - 48 ≡ d = omega arith in
     rw (le-ltb (48 + d) 48 (omega arith), le-ltb 57 (48 + d) (omega arith), e, le-ltb 4294967295 (v * 10 + d) (omega arith))
 
-digits_append : (xs ys : List ℕ) (v m : ℕ) → digits_of v xs ≡ Value m → digits_of v (xs ++ ys) ≡ digits_of m ys
+digits_append : (xs ys : List ℕ) (v m : ℕ) → digits_of v xs ≡ Some m → digits_of v (xs ++ ys) ≡ digits_of m ys
 unfolding digits_of
 digits_append [] ys v m h = let e : v ≡ m = cc in rw e
 digits_append (c ∷ xs) ys v m h = go (ltb c 48) (ltb 57 c) (ltb 4294967295 (v * 10 + (c - 48))) (digits_append xs ys (v * 10 + (c - 48)) m) h
   where
-    go : (a b t : Bool) → (digits_of (v * 10 + (c - 48)) xs ≡ Value m → digits_of (v * 10 + (c - 48)) (xs ++ ys) ≡ digits_of m ys)
-        → cond a Bad (cond b Bad (cond t Bad (digits_of (v * 10 + (c - 48)) xs))) ≡ Value m
-        → cond a Bad (cond b Bad (cond t Bad (digits_of (v * 10 + (c - 48)) (xs ++ ys)))) ≡ digits_of m ys
+    go : (a b t : Bool) → (digits_of (v * 10 + (c - 48)) xs ≡ Some m → digits_of (v * 10 + (c - 48)) (xs ++ ys) ≡ digits_of m ys)
+        → cond a None (cond b None (cond t None (digits_of (v * 10 + (c - 48)) xs))) ≡ Some m
+        → cond a None (cond b None (cond t None (digits_of (v * 10 + (c - 48)) (xs ++ ys)))) ≡ digits_of m ys
     go true b t ih h = absurd (let z : ◌≡◌ {A = ℕ} 0 1 = cc in omega arith)
     go false true t ih h = absurd (let z : ◌≡◌ {A = ℕ} 0 1 = cc in omega arith)
     go false false true ih h = absurd (let z : ◌≡◌ {A = ℕ} 0 1 = cc in omega arith)
@@ -50,7 +48,7 @@ head-append (c ∷ xs) ys h = refl
 
 -- the digits of n: they make n, and there is no leading zero
 pub record Spelt (n : ℕ) (s : List ℕ) : Type 0 where
-  pub value : digits_of 0 s ≡ Value n
+  pub value : digits_of 0 s ≡ Some n
   pub some : 0 < length s
   pub first : 0 < n → 48 < head s
   pub short : n < 10 → length s ≡ 1
@@ -64,26 +62,26 @@ spelt-fuel (suc f) n h k = go (ltb n 10) refl (λ m a b. spelt-fuel f m a b)
     go true q ih =
         let l : n < 10 = ltb-true n 10 q in
         let z : 0 * 10 + n ≡ n = omega arith in
-        rw (decimal-small n l) (record { value = digit_one 0 n l (omega arith) ∙ ap Value z; some = omega arith; first = λ x. omega arith; short = λ x. refl })
+        rw (decimal-small n l) (record { value = digit_one 0 n l (omega arith) ∙ ap Some z; some = omega arith; first = λ x. omega arith; short = λ x. refl })
     go false q ih =
         let l : 10 ≤ n = ltb-false n 10 q in
         let i = ih (n / 10) (omega arith) (omega arith) in
         let z : n / 10 * 10 + n % 10 ≡ n = omega arith in
         rw (decimal-more n l) (record {
-          value = digits_append (decimal (n / 10)) ((48 + n % 10) ∷ []) 0 (n / 10) i.value ∙ digit_one (n / 10) (n % 10) (omega arith) (omega arith) ∙ ap Value z;
+          value = digits_append (decimal (n / 10)) ((48 + n % 10) ∷ []) 0 (n / 10) i.value ∙ digit_one (n / 10) (n % 10) (omega arith) (omega arith) ∙ ap Some z;
           some = omega (arith, length-append (decimal (n / 10)) ((48 + n % 10) ∷ []));
           first = λ x. let e = head-append (decimal (n / 10)) ((48 + n % 10) ∷ []) i.some in omega (arith, i.first (omega arith));
           short = λ x. absurd (omega arith);
         })
 
 -- no leading zero
-read_head : (n : ℕ) (s : List ℕ) → Spelt n s → number s ≡ Value n
+read_head : (n : ℕ) (s : List ℕ) → Spelt n s → number s ≡ Some n
 unfolding number
 read_head n [] p = absurd (omega (arith, p.some))
 read_head n (c ∷ []) p = p.value
 read_head n (c ∷ (d ∷ s)) p = go (ltb n 10) refl
   where
-    go : (t : Bool) → ltb n 10 ≡ t → number (c ∷ (d ∷ s)) ≡ Value n
+    go : (t : Bool) → ltb n 10 ≡ t → number (c ∷ (d ∷ s)) ≡ Some n
     go true q = absurd (omega (arith, p.short (ltb-true n 10 q)))
     go false q =
         let l : 10 ≤ n = ltb-false n 10 q in
@@ -91,7 +89,7 @@ read_head n (c ∷ (d ∷ s)) p = go (ltb n 10) refl
         rw (ne_eqb c 48 z) p.value
 
 -- a printed number reads back
-pub reads-back : (n : ℕ) → n < 4294967296 → number (decimal n) ≡ Value n
+pub reads-back : (n : ℕ) → n < 4294967296 → number (decimal n) ≡ Some n
 reads-back n h = read_head n (decimal n) (spelt-fuel (suc n) n (omega arith) h)
 
 -- Bytes that do not stand in some text.
@@ -145,7 +143,7 @@ unfoldable row_text : (k a n e : ℕ) → List ℕ
 row_text k a n e = decimal k ++ (32 ∷ (decimal a ++ (32 ∷ (decimal n ++ (32 ∷ decimal e)))))
 
 -- a printed row reads back
-row_back : (k a n e : ℕ) → k < 4294967296 → a < 4294967296 → n < 4294967296 → e < 4294967296 → row_of (fields (row_text k a n e)) ≡ Words k a n e
+row_back : (k a n e : ℕ) → k < 4294967296 → a < 4294967296 → n < 4294967296 → e < 4294967296 → row_of (fields (row_text k a n e)) ≡ Some (record { kind = k; attr = a; name = n; end = e })
 unfolding row_of row_text
 row_back k a n e h i j l =
     rw (
@@ -176,16 +174,16 @@ unfolding row_lines
 first_row k a n e ws = ap lines (row_line k a n e (row_lines ws)) ∙ split-clear 10 [] (row_text k a n e) (row_lines ws) (clear_row k a n e)
 
 -- printed rows read back: so many, and the same words
-pub count-back : (m k : ℕ) (ws : List ℕ) → Whole ws → 4 * m + length ws ≤ 4096 → rows_from m k (lines (row_lines ws)) ≡ Count (m + length ws / 4)
+pub count-back : (m k : ℕ) (ws : List ℕ) → Whole ws → 4 * m + length ws ≤ 4096 → rows_from m k (lines (row_lines ws)) ≡ Ok (m + length ws / 4)
 unfolding rows_from
-count-back m k [] w h = unfold row_lines split in (let e : m ≡ m + 0 / 4 = omega arith in ap Count e)
+count-back m k [] w h = unfold row_lines split in (let e : m ≡ m + 0 / 4 = omega arith in ap Ok e)
 count-back m k (a ∷ []) w h = absurd w
 count-back m k (a ∷ b ∷ []) w h = absurd w
 count-back m k (a ∷ b ∷ c ∷ []) w h = absurd w
 count-back m k (a ∷ b ∷ c ∷ d ∷ ws) w h =
     let e : m + 1 + length ws / 4 ≡ m + (length ws + 4) / 4 = omega arith in
     rw (first_row a b c d ws, row_back a b c d w.0 w.1 w.2 w.3, lt-leb 1024 m (omega arith))
-    (count-back (m + 1) k ws w.4 (omega arith) ∙ ap Count (omega arith))
+    (count-back (m + 1) k ws w.4 (omega arith) ∙ ap Ok (omega arith))
 
 pub words_back : (m : ℕ) (ws : List ℕ) → Whole ws → 4 * m + length ws ≤ 4096 → words_from m (lines (row_lines ws)) ≡ ws
 unfolding words_from

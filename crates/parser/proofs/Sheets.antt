@@ -2,151 +2,169 @@
 use mathlib.Core.Path.{◌≡◌, refl, sym, ap, ap₂, subst, ◌∙◌}
 use mathlib.Core.Bool.{Bool, true, false, cond}
 use mathlib.Core.List.{List, [], ◌∷◌}
-use Prim.Native.Nat.{ℕ, ◌+◌, ◌*◌, ◌/◌, ◌≤◌, ◌<◌}
+use Prim.Native.Nat.{ℕ, ◌+◌, ◌*◌, ◌≤◌}
 use native.Mathlib.Omega.{arith}
-use lib.ListN.{length, drop}
+use lib.ListN.{length}
 use lib.Seq.{sets}
 use lib.Dec.{leb, eqb}
 use lib.ListN.{get_or}
+use Rattle.std.proofs.Common.{Option, None, Some, Result, Ok, Err}
+use Rattle.std.specs.Option.{ok_or}
+use Rattle.std.specs.Result.{IsErrAnd}
 use Rattle.names.specs.Bytes.{bytes_of}
 use Rattle.steps.specs.Mode.{Switches, switches}
 use Rattle.fields.specs.Headers.{switch_header, name_header}
-use Rattle.fields.specs.Fields.{split, part, fields, lines, row_of, Next, same_bytes, switches_ok}
-use Rattle.parser.specs.Parse.{Read, Read.faulty, is_row, add_row, rows_from, words_from, names_in, after_names, switches_in, with_rows, from_fourth, from_third, from_second, from_first, RowsRead, SmallLines, Found, Lost, NamesAre, NamesRead, Lent, Lies, Small, Told}
+use Rattle.fields.specs.Fields.{split, fields, lines, row_of, Lined, same_bytes, switches_ok, three_bits}
 use Rattle.fields.specs.declared.Row.{Row}
-use Rattle.fields.specs.declared.Row.TheVariants.{Words, Fault}
-use Rattle.parser.specs.declared.Lines.{Lines}
-use Rattle.parser.specs.declared.Lines.TheVariants.{Count, Wrong}
+use Rattle.parser.specs.Parse.{Read, Read.faulty, Lines, wrong, is_row, add_row, rows_from, words_from, names_in, after_names, switches_in}
+use Rattle.parser.specs.Parse.{with_rows, from_fourth, from_third, from_second, from_first, RowsRead, Found, Lost, NamesRead, Lent, Small, Told}
+use Rattle.parser.specs.declared.FaultyLine.{FaultyLine}
 use Rattle.parser.specs.declared.Names.{Names}
-use Rattle.parser.specs.declared.Names.TheVariants.{Past, Missing}
-use Rattle.parser.specs.declared.Parsed.{Parsed}
-use Rattle.parser.specs.declared.Parsed.TheVariants.{Sheet, Faulty}
-use Rattle.fields.proofs.Splitting.{At, lines_none, line-next}
+use Rattle.parser.specs.declared.Sheet.{Sheet}
+use Rattle.acts.specs.View.{switches_of}
+use Rattle.acts.specs.declared.switches.Switches.{Switches as SwitchesLent}
 
 -- an answer for what is read serves for what equals it
-pub carry : {x y : Read} {r : Parsed} {b : Lent} {n : ℕ} → x ≡ y → Told x n r b → Told y n r b
+pub carry : {x y : Read} {r : Result Sheet FaultyLine} {b : Lent} {n : ℕ} → x ≡ y → Told x n r b → Told y n r b
 carry {x} {y} {r} {b} {n} e g = subst (λ (z : Read). Told z n r b) e g
 
-pub fault : {x : Read} {b : Lent} {n : ℕ} (l : ℕ) → faulty l ≡ x → l ≤ n + 1029 → Told x n (Faulty l) b
-fault {x} {b} {n} l e h = carry e (record { answer = refl; small = h })
+pub fault : {x : Read} {b : Lent} {n : ℕ} (e : FaultyLine) → faulty e.line ≡ x → e.line ≤ n + 1029 → Told x n (Err e) b
+fault {x} {b} {n} e q h = carry q (record { answer = refl; small = h })
 
 -- a bound by the length serves for a larger one
-more : (n m : ℕ) (r : Parsed) → n ≤ m → Small n r → Small m r
-more n m (Sheet a b c k i t) h s = (s.0, omega (arith, s.1), omega (arith, s.2))
-more n m (Faulty l) h s = omega arith
+more : (n m : ℕ) (r : Result Sheet FaultyLine) → n ≤ m → Small n r → Small m r
+more n m (Ok t) h s = (s.0, omega (arith, s.1), omega (arith, s.2))
+more n m (Err e) h s = omega arith
 
-pub within : {x : Read} {r : Parsed} {b : Lent} (n m : ℕ) → n ≤ m → Told x n r b → Told x m r b
+pub within : {x : Read} {r : Result Sheet FaultyLine} {b : Lent} (n m : ℕ) → n ≤ m → Told x n r b → Told x m r b
 within {x} {r} n m h t = record { answer = t.answer; small = more n m r h t.small }
 
+-- where `?` hands a fault on
+pub handed : {A : Type 0} (r : Result A FaultyLine) (f : FaultyLine) → IsErrAnd r (λ e. e ≡ f) → r ≡ Err f
+handed (Ok x) f h = absurd h
+handed (Err e) f h = ap Err h
+
+-- where `ok_or` made the fault
+pub or_none : {A : Type 0} (r : Option A) {f e : FaultyLine} → ok_or r f ≡ Err e → (None ≡ r) × (e ≡ f)
+or_none None h = (refl, cc)
+or_none (Some x) h = absurd (let z : ◌≡◌ {A = ℕ} 0 1 = cc in omega arith)
+
+pub or_some : {A : Type 0} (r : Option A) (f : FaultyLine) {x : A} → ok_or r f ≡ Ok x → Some x ≡ r
+or_some None f h = absurd (let z : ◌≡◌ {A = ℕ} 0 1 = cc in omega arith)
+or_some (Some y) f h = cc
+
 -- so many rows have four times as many words
-pub counted : (m k n : ℕ) (ls : List (List ℕ)) → rows_from m k ls ≡ Count n → 4 * m + length (words_from m ls) ≡ 4 * n
+pub counted : (m k n : ℕ) (ls : List (List ℕ)) → rows_from m k ls ≡ Ok n → 4 * m + length (words_from m ls) ≡ 4 * n
 unfolding rows_from words_from
 counted m k n [] h = let e : m ≡ n = cc in omega arith
 counted m k n (l ∷ ls) h = go (row_of (fields l)) (leb 1024 m) (counted (m + 1) k n ls) h
   where
-    go : (x : Row) (b : Bool) → (rows_from (m + 1) k ls ≡ Count n → 4 * (m + 1) + length (words_from (m + 1) ls) ≡ 4 * n)
-        → is_row x (cond b (Wrong (k + m)) (rows_from (m + 1) k ls)) (Wrong (k + m)) ≡ Count n
+    go : (x : Option Row) (b : Bool) → (rows_from (m + 1) k ls ≡ Ok n → 4 * (m + 1) + length (words_from (m + 1) ls) ≡ 4 * n)
+        → is_row {A = Lines} x (cond b (wrong (k + m)) (rows_from (m + 1) k ls)) (wrong (k + m)) ≡ Ok n
         → 4 * m + length (cond b [] (add_row x (words_from (m + 1) ls))) ≡ 4 * n
-    go Fault b ih h = absurd (let z : ◌≡◌ {A = ℕ} 0 1 = cc in omega arith)
-    go (Words a b c d) true ih h = absurd (let z : ◌≡◌ {A = ℕ} 0 1 = cc in omega arith)
-    go (Words a b c d) false ih h = omega (arith, ih h)
+    go None b ih h = absurd (let z : ◌≡◌ {A = ℕ} 0 1 = cc in omega arith)
+    go (Some r) true ih h = absurd (let z : ◌≡◌ {A = ℕ} 0 1 = cc in omega arith)
+    go (Some r) false ih h = omega (arith, ih h)
 
--- From line 4 on.
-module _ (s : List ℕ) (at : ℕ) (w : Switches) (b : Lent) (r : Names) (h : NamesRead s at b.pairs₀ b.text₀ r b.pairs b.text) where
-  abbrev ls : List (List ℕ)
-  ls = lines (drop at s)
-
-  lost : (l : ℕ) → Lost s ls l → faulty l ≡ from_fourth w ls
+-- From line 4 on, which is the first of s.
+module _ (w : Switches) (b : Lent) (s : List ℕ) where
+  pub names_missing : (e : FaultyLine) → Lost s e.line → faulty e.line ≡ from_fourth w (lines s)
   unfolding from_fourth
-  lost l n = rw (n.lost, n.line)
+  names_missing e n = rw (n.lost, n.line)
 
-  pub names_missing : (l : ℕ) → r ≡ Missing l → Told (from_fourth w ls) (length s) (Faulty l) b
-  names_missing l e =
-      let n : Lost s ls l = subst (NamesAre s ls) e h.answer in
-      fault l (lost l n) (omega (arith, n.low))
-
-  module _ (p k t : ℕ) (e : r ≡ Past p k t) (q : Lines) (g : RowsRead s p (5 + k) b.rows₀ q b.rows) (small : SmallLines (5 + k) q) where
-    there : Found s ls p k t
-    there = subst (NamesAre s ls) e h.answer
-
-    pub names-inside : (p ≤ length s) × (k ≤ length s)
-    names-inside = (there.inside, there.few)
-
-    rows_are : q ≡ rows_from 0 (5 + length (names_in ls)) (after_names ls)
+  module _ (n : Names) (there : Found s n) (r : Lines) (g : RowsRead n.rest.now (5 + n.count) b.rows₀ r b.rows) where
+    rows_are : r ≡ rows_from 0 (5 + length (names_in (lines s))) (after_names (lines s))
     rows_are = g.answer ∙ ap₂ (λ (i : ℕ) (x : List (List ℕ)). rows_from 0 (5 + i) x) there.counted there.starts
 
-    read : with_rows w (names_in ls) (words_from 0 (after_names ls)) q ≡ from_fourth w ls
+    read : with_rows w (names_in (lines s)) (words_from 0 (after_names (lines s))) r ≡ from_fourth w (lines s)
     unfolding from_fourth
-    read = rw there.found (ap (with_rows w (names_in ls) (words_from 0 (after_names ls))) rows_are)
+    read = rw there.found (ap (with_rows w (names_in (lines s)) (words_from 0 (after_names (lines s)))) rows_are)
 
-    pub rows-wrong : (l : ℕ) → q ≡ Wrong l → Told (from_fourth w ls) (length s) (Faulty l) b
-    rows-wrong l f =
-        let low : l ≤ 5 + k + 1024 = subst (SmallLines (5 + k)) f small in
-        fault l (ap (with_rows w (names_in ls) (words_from 0 (after_names ls))) (sym f) ∙ read) (omega (arith, there.few))
+  pub rows-wrong : (n : Names) → Found s n → (e : FaultyLine) → RowsRead n.rest.now (5 + n.count) b.rows₀ (Err e) b.rows → faulty e.line ≡ from_fourth w (lines s)
+  rows-wrong n f e g = read n f (Err e) g
 
-    pub rows-count : (n : ℕ) → q ≡ Count n → Told (from_fourth w ls) (length s) (Sheet w.arrows w.async w.asyncgen n k t) b
-    rows-count n f =
-        let ws : List ℕ = words_from 0 (after_names ls) in
-        let c : 4 * 0 + length ws ≡ 4 * n = counted 0 (5 + length (names_in ls)) n (after_names ls) (sym rows_are ∙ f) in
-        let m : n ≡ length ws / 4 = omega arith in
-        let low : n ≤ 1024 = subst (SmallLines (5 + k)) f small in
-        let lies : Lies w (names_in ls) ws (Sheet w.arrows w.async w.asyncgen n k t) b = record {
-          answer = ap₂ (λ (x y : ℕ). Sheet w.arrows w.async w.asyncgen x y t) m there.counted
-              ∙ ap (Sheet w.arrows w.async w.asyncgen (length ws / 4) (length (names_in ls))) there.long;
+  pub rows-count : (n : Names) → Found s n → (m : ℕ) → RowsRead n.rest.now (5 + n.count) b.rows₀ (Ok m) b.rows → m ≤ 1024 → NamesRead s b.pairs₀ b.text₀ (Ok n) b.pairs b.text
+      → (t : Sheet) → switches_of t.switches ≡ w → t.rows ≡ m → t.names ≡ n.count → t.text ≡ n.text → Told (from_fourth w (lines s)) (length s) (Ok t) b
+  rows-count n f m g low h t sw tr tn tt' =
+      let c : 4 * 0 + length (words_from 0 (after_names (lines s))) ≡ 4 * m = counted 0 (5 + length (names_in (lines s))) m (after_names (lines s)) (sym (rows_are n f (Ok m) g)) in
+      carry (read n f (Ok m) g) (record {
+        answer = record {
+          switched = sw;
+          row_count = omega arith;
+          name_count = tn ∙ f.counted;
+          text_size = tt' ∙ f.long;
           fours = omega arith;
-          rows_lie = g.wrote ∙ ap (λ (x : List (List ℕ)). sets b.rows₀ 0 (bytes_of (words_from 0 x))) there.starts;
+          rows_lie = g.wrote ∙ ap (λ (x : List (List ℕ)). sets b.rows₀ 0 (bytes_of (words_from 0 x))) f.starts;
           names_lie = h.paired;
           text_lies = h.laid;
-        } in
-        carry (ap (with_rows w (names_in ls) ws) (sym f) ∙ read) (record { answer = lies; small = (low, there.few, there.short) })
+        };
+        small = (omega arith, omega (arith, f.few), omega (arith, f.short));
+      })
 
--- what read_names asks of read_rows
-pub past_inside : (s : List ℕ) (ls : List (List ℕ)) (p k t : ℕ) (r : Names) → r ≡ Past p k t → NamesAre s ls r → (p ≤ length s) × (k ≤ length s)
-past_inside s ls p k t r e n = let f : Found s ls p k t = subst (NamesAre s ls) e n in (f.inside, f.few)
+-- where the names or the rows are at fault, behind the first three lines
+pub names-fault : (s : List ℕ) (w : Switches) {o : List ℕ} {b : Lent} (e : FaultyLine) → from_fourth w (lines o) ≡ from_first (lines s) → length o ≤ length s → NamesRead o b.pairs₀ b.text₀ (Err e) b.pairs b.text
+    → Told (from_first (lines s)) (length s) (Err e) b
+names-fault s w {o} {b} e x h n = fault e (names_missing w b o e n.answer ∙ x) (omega (arith, n.answer.low))
+
+module _ (s : List ℕ) (w : Switches) {o : List ℕ} {b : Lent} (x : from_fourth w (lines o) ≡ from_first (lines s)) (h : length o ≤ length s)
+    {n : Names} (f : NamesRead o b.pairs₀ b.text₀ (Ok n) b.pairs b.text) where
+  pub rows-fault : (e : FaultyLine) → RowsRead n.rest.now (5 + n.count) b.rows₀ (Err e) b.rows → e.line ≤ 5 + n.count + 1024 → Told (from_first (lines s)) (length s) (Err e) b
+  rows-fault e g low = fault e (rows-wrong w b o n f.answer e g ∙ x) (omega (arith, f.answer.few))
+
+  pub sheet_read : (m : ℕ) → RowsRead n.rest.now (5 + n.count) b.rows₀ (Ok m) b.rows → m ≤ 1024 → (v : SwitchesLent) → switches_of v ≡ w
+      → Told (from_first (lines s)) (length s) (Ok (record { switches = v; rows = m; names = n.count; text = n.text })) b
+  sheet_read m g low v q = carry x (within (length o) (length s) h (rows-count w b o n f.answer m g low f _ q refl refl refl))
 
 -- The first three lines.
-pub third_none : (s : List ℕ) (w : Switches) (p : ℕ) → p ≤ length s → length s ≤ p → faulty 3 ≡ from_third w (lines (drop p s))
-unfolding from_third
-third_none s w p h k = rw (lines_none s p h k)
-
-pub second_none : (s : List ℕ) (p : ℕ) → p ≤ length s → length s ≤ p → faulty 2 ≡ from_second (lines (drop p s))
-unfolding from_second
-second_none s p h k = rw (lines_none s p h k)
-
-pub first-none : (s : List ℕ) → length s ≡ 0 → faulty 1 ≡ from_first (lines s)
+pub first-none : (s : List ℕ) → s ≡ [] → faulty 1 ≡ from_first (lines s)
 unfolding from_first split
-first-none [] h = refl
-first-none (c ∷ s) h = absurd (omega arith)
+first-none s h = rw h refl
 
-module _ (s : List ℕ) (p e q : ℕ) (a : At 10 s p e) (h : p < length s) (n : Next s e q) where
-  pub third_yes : (w : Switches) → true ≡ same_bytes (part s p e) name_header → from_fourth w (lines (drop q s)) ≡ from_third w (lines (drop p s))
-  unfolding from_third
-  third_yes w y = rw (line-next s p e q a h n, ← y)
-
-  pub third_no : (w : Switches) → false ≡ same_bytes (part s p e) name_header → faulty 3 ≡ from_third w (lines (drop p s))
-  unfolding from_third
-  third_no w y = rw (line-next s p e q a h n, ← y)
-
-  second_line : true ≡ switches_ok (part s p e) → from_third (switches_in (part s p e)) (lines (drop q s)) ≡ from_second (lines (drop p s))
-  unfolding from_second
-  second_line y = rw (line-next s p e q a h n, ← y)
-
-  pub second_yes : (x y z : Bool) → x ≡ eqb (get_or (part s p e) 0 0) 49 → y ≡ eqb (get_or (part s p e) 2 0) 49 → z ≡ eqb (get_or (part s p e) 4 0) 49
-      → true ≡ switches_ok (part s p e) → from_third (switches x y z) (lines (drop q s)) ≡ from_second (lines (drop p s))
-  second_yes x y z i j k o =
-      ap (λ (v : Bool). from_third (switches v y z) (lines (drop q s))) i
-      ∙ ap (λ (v : Bool). from_third (switches (eqb (get_or (part s p e) 0 0) 49) v z) (lines (drop q s))) j
-      ∙ ap (λ (v : Bool). from_third (switches (eqb (get_or (part s p e) 0 0) 49) (eqb (get_or (part s p e) 2 0) 49) v) (lines (drop q s))) k
-      ∙ second_line o
-
-  pub second_no : false ≡ switches_ok (part s p e) → faulty 2 ≡ from_second (lines (drop p s))
-  unfolding from_second
-  second_no y = rw (line-next s p e q a h n, ← y)
-
-  pub first_yes : true ≡ same_bytes (part s p e) switch_header → from_second (lines (drop q s)) ≡ from_first (lines (drop p s))
+module _ {s l q : List ℕ} (e : Lined s l q) where
+  pub first_no : false ≡ same_bytes l switch_header → faulty 1 ≡ from_first (lines s)
   unfolding from_first
-  first_yes y = rw (line-next s p e q a h n, ← y)
+  first_no y = rw (e.first, ← y)
 
-  pub first_no : false ≡ same_bytes (part s p e) switch_header → faulty 1 ≡ from_first (lines (drop p s))
-  unfolding from_first
-  first_no y = rw (line-next s p e q a h n, ← y)
+  module _ (y : true ≡ same_bytes l switch_header) where
+    first_yes : from_second (lines q) ≡ from_first (lines s)
+    unfolding from_first
+    first_yes = rw (e.first, ← y)
+
+    pub second_none : q ≡ [] → faulty 2 ≡ from_first (lines s)
+    unfolding from_second split
+    second_none h = let z : faulty 2 ≡ from_second (lines q) = rw h refl in z ∙ first_yes
+
+    module _ {m o : List ℕ} (f : Lined q m o) where
+      pub second_no : None ≡ three_bits m → faulty 2 ≡ from_first (lines s)
+      unfolding from_second
+      second_no h = go (switches_ok m) refl h
+        where
+          go : (b : Bool) → switches_ok m ≡ b → None ≡ cond {A = Option (Bool × Bool × Bool)} b (Some (eqb (get_or m 0 0) 49, eqb (get_or m 2 0) 49, eqb (get_or m 4 0) 49)) None → faulty 2 ≡ from_first (lines s)
+          go true p k = absurd (let z : ◌≡◌ {A = ℕ} 0 1 = cc in omega arith)
+          go false p k = (let z : faulty 2 ≡ from_second (lines q) = rw (f.first, p) refl in z) ∙ first_yes
+
+      module _ {x : Bool × Bool × Bool} (w : Some x ≡ three_bits m) where
+        second_yes : from_third (switches x.0 x.1 x.2) (lines o) ≡ from_first (lines s)
+        unfolding from_second
+        second_yes = go (switches_ok m) refl w
+          where
+            go : (b : Bool) → switches_ok m ≡ b → Some x ≡ cond {A = Option (Bool × Bool × Bool)} b (Some (eqb (get_or m 0 0) 49, eqb (get_or m 2 0) 49, eqb (get_or m 4 0) 49)) None
+                → from_third (switches x.0 x.1 x.2) (lines o) ≡ from_first (lines s)
+            go false p k = absurd (let z : ◌≡◌ {A = ℕ} 0 1 = cc in omega arith)
+            go true p k =
+                let z : x ≡ (eqb (get_or m 0 0) 49, eqb (get_or m 2 0) 49, eqb (get_or m 4 0) 49) = cc in
+                let v : from_third (switches_in m) (lines o) ≡ from_second (lines q) = rw (f.first, p) refl in
+                ap (λ (y : Bool × Bool × Bool). from_third (switches y.0 y.1 y.2) (lines o)) z ∙ v ∙ first_yes
+
+        pub third_none : o ≡ [] → faulty 3 ≡ from_first (lines s)
+        unfolding from_third split
+        third_none h = let z : faulty 3 ≡ from_third (switches x.0 x.1 x.2) (lines o) = rw h refl in z ∙ second_yes
+
+        module _ {t u : List ℕ} (g : Lined o t u) where
+          pub third_no : false ≡ same_bytes t name_header → faulty 3 ≡ from_first (lines s)
+          unfolding from_third
+          third_no y = let z : faulty 3 ≡ from_third (switches x.0 x.1 x.2) (lines o) = rw (g.first, ← y) refl in z ∙ second_yes
+
+          pub third_yes : true ≡ same_bytes t name_header → from_fourth (switches x.0 x.1 x.2) (lines u) ≡ from_first (lines s)
+          unfolding from_third
+          third_yes y = let z : from_fourth (switches x.0 x.1 x.2) (lines u) ≡ from_third (switches x.0 x.1 x.2) (lines o) = rw (g.first, ← y) refl in z ∙ second_yes

@@ -5,206 +5,124 @@
 
 mod store;
 
-ghost use Rattle.std.specs.Prelude.{◌≡◌, ℕ, ◌+◌, ◌*◌, ◌≤◌, ◌<◌, ◌^◌, length, drop};
-ghost use Rattle.steps.specs.Mode.{switches};
-ghost use Rattle.fields.specs.Fields.{part, lines};
-ghost use Rattle.decimal.specs.Decimal.{Wrote};
-ghost use Rattle.parser.specs.Parse.{RowsRead, SmallLines, NamesRead, Told, Room, lent, from_first, from_second, from_third, from_fourth, sheet_of};
+ghost use Rattle.std.specs.Prelude.{◌≡◌, [], ◌+◌, ◌*◌, ◌≤◌, ◌<◌, ◌^◌, length, MatchResult};
+ghost use Rattle.acts.specs.View.{switches_of};
+ghost use Rattle.fields.specs.Fields.{lines, Lined};
+ghost use Rattle.parser.specs.Parse.{Read.faulty, RowsRead, SmallLines, NamesRead, Told, lent, from_first, from_fourth, sheet_of};
 
+use acts::switches::Switches;
 use decimal::put_bytes;
 use fields::{
-    Row, find, is_name_header, is_on, is_row_header, is_switch_header, next_line, row_at,
-    switches_at,
+    is_name_header, is_row_header, is_switch_header, read_row, read_switches, split_line,
 };
 use names::words::put_pair;
 use store::put_row;
 
-const NEWLINE: u8 = 10;
-
 // "or over 1,024 rows"
 const MOST_ROWS: usize = 1024;
 
-// How many rows there are, or the first line at fault.
-#[derive(Clone, Copy)]
-pub enum Lines {
-    Count(usize),
-    Wrong(usize),
+// The first line that is faulty or missing, from 1.
+#[derive(Clone, Copy, PartialEq, Eq, Debug)]
+pub struct FaultyLine {
+    pub line: usize,
 }
 
-// The row lines from byte `at` on, which starts line `line`.
-fn read_rows(s: &[u8], at: usize, line: usize, rows: &mut [u8]) -> Lines
-    requires { (at ≤ length s.now) × (line < 2 ^ 62) × (16384 ≤ length rows.old) }
-    ensures { (RowsRead s.now at line rows.old result rows.new) × (SmallLines line result) }
+// The row lines of s, the first of which is line `line`: how many rows there are.
+fn read_rows(s: &[u8], line: usize, rows: &mut [u8]) -> Result<usize, FaultyLine>
+    requires { (length s.now < 2 ^ 32) × (line < 2 ^ 62) × (16384 ≤ length rows.old) }
+    ensures { (RowsRead s.now line rows.old result rows.new) × (SmallLines line result) }
 {
-    let mut p = at;
+    let mut rest = s;
     let mut n: usize = 0;
-    while p < s.len() {
-        let e = find(s, p, NEWLINE);
-        let row = row_at(s, p, e);
-        let Row::Words(kind, attr, name, end) = row else {
-            return Lines::Wrong(line + n);
-        };
+    while let Some((text, after)) = split_line(rest) {
+        let fault = FaultyLine { line: line + n };
+        let row = read_row(text).ok_or(fault)?;
         if MOST_ROWS <= n {
-            return Lines::Wrong(line + n);
+            return Err(fault);
         }
-        put_row(rows, n, kind, attr, name, end);
+        put_row(rows, n, row);
         n += 1;
-        p = next_line(s, e);
+        rest = after;
     }
-    Lines::Count(n)
+    Ok(n)
 }
 
-// Where the row lines start, how many names there are, and how many bytes they have; or the line
-// that is missing.
+// How many names there are and how many bytes they have, and what stands behind the header of the
+// rows.
 #[derive(Clone, Copy)]
-pub enum Names {
-    Past(usize, usize, usize),
-    Missing(usize),
+struct Names<'a> {
+    count: usize,
+    text: usize,
+    rest: &'a [u8],
 }
 
-// Bytes `from` to `to` of s.
-fn put_part(text: &mut [u8], at: usize, s: &[u8], from: usize, to: usize) -> usize
-    requires { (at < 2 ^ 60) × (from ≤ to) × (to ≤ length s.now) × (length s.now < 2 ^ 60) }
-    ensures { Wrote text.old at (part s.now from to) result text.new }
+// The name lines of s, the first of which is line 4.
+fn read_names<'a>(s: &'a [u8], pairs: &mut [u8], text: &mut [u8]) -> Result<Names<'a>, FaultyLine>
+    requires { (length s.now < 2 ^ 32) × (8 * length s.now ≤ length pairs.old) }
+    ensures { NamesRead s.now pairs.old text.old result pairs.new text.new }
 {
-    put_bytes(text, at, &s[from..to])
-}
-
-// The name lines from byte `at` on, which starts line 4.
-fn read_names(s: &[u8], at: usize, pairs: &mut [u8], text: &mut [u8]) -> Names
-    requires { (at ≤ length s.now) × (length s.now < 2 ^ 32) × (8 * length s.now ≤ length pairs.old) }
-    ensures { NamesRead s.now at pairs.old text.old result pairs.new text.new }
-{
-    let mut p = at;
+    let mut rest = s;
     let mut k: usize = 0;
     let mut t: usize = 0;
-    while p < s.len() {
-        let e = find(s, p, NEWLINE);
-        let q = next_line(s, e);
-        if is_row_header(s, p, e) {
-            return Names::Past(q, k, t);
+    while let Some((name, after)) = split_line(rest) {
+        if is_row_header(name) {
+            return Ok(Names {
+                count: k,
+                text: t,
+                rest: after,
+            });
         }
-        put_pair(pairs, k, t as u32, (e - p) as u32);
-        t = put_part(text, t, s, p, e);
+        put_pair(pairs, k, t as u32, name.len() as u32);
+        t = put_bytes(text, t, name);
         k += 1;
-        p = q;
+        rest = after;
     }
-    Names::Missing(4 + k)
+    Err(FaultyLine { line: 4 + k })
+}
+
+// The first line of s, which is line `line`, and what stands behind it.
+fn cut_line(s: &[u8], line: usize) -> Result<(&[u8], &[u8]), FaultyLine>
+    ensures { MatchResult result (λ p. Lined s.now p.0.now p.1.now) (λ e. (s.now ≡ []) × (e.line ≡ line)) }
+{
+    split_line(s).ok_or(FaultyLine { line })
+}
+
+// The first three lines: the switches, and what stands behind the header of the names.
+fn read_head(s: &[u8]) -> Result<(Switches, &[u8]), FaultyLine>
+    ensures { MatchResult result
+        (λ p. (from_fourth (switches_of p.0) (lines p.1.now) ≡ from_first (lines s.now)) × (length p.1.now ≤ length s.now))
+        (λ e. (faulty e.line ≡ from_first (lines s.now)) × (e.line ≤ 3)) }
+{
+    let (header, rest) = cut_line(s, 1)?;
+    if !is_switch_header(header) {
+        return Err(FaultyLine { line: 1 });
+    }
+    let (bits, rest) = cut_line(rest, 2)?;
+    let fault = FaultyLine { line: 2 };
+    let (arrow_function, async_to_generator, async_generator_functions) = read_switches(bits).ok_or(
+        fault,
+    )?;
+    let (header, rest) = cut_line(rest, 3)?;
+    if !is_name_header(header) {
+        return Err(FaultyLine { line: 3 });
+    }
+    let switches = Switches {
+        arrow_function,
+        async_to_generator,
+        async_generator_functions,
+    };
+    Ok((switches, rest))
 }
 
 // A sheet: its switches, and how many rows, names and bytes of text stand at the front of what was
-// lent for them; or the first line that is faulty or missing.
+// lent for them. Counts and no slices: behind a slice in the result, `parse` could no longer say
+// what is left in all that was lent.
 #[derive(Clone, Copy)]
-pub enum Parsed {
-    Sheet {
-        arrow: bool,
-        async_to_generator: bool,
-        async_generator_functions: bool,
-        rows: usize,
-        names: usize,
-        text: usize,
-    },
-    Faulty {
-        line: usize,
-    },
-}
-
-// From line 4 on: names and rows.
-fn from_fourth(
-    s: &[u8],
-    at: usize,
-    arrow: bool,
-    to_generator: bool,
-    generators: bool,
-    rows: &mut [u8],
-    pairs: &mut [u8],
-    text: &mut [u8],
-) -> Parsed
-    requires { (at ≤ length s.now) × (Room s.now rows.old pairs.old) }
-    ensures { Told (from_fourth (switches arrow to_generator generators) (lines (drop at s.now))) (length s.now) result
-        (lent rows.old rows.new pairs.old pairs.new text.old text.new) }
-{
-    let found = read_names(s, at, pairs, text);
-    match found {
-        Names::Missing(line) => Parsed::Faulty { line },
-        Names::Past(p, k, t) => {
-            let read = read_rows(s, p, 5 + k, rows);
-            match read {
-                Lines::Wrong(line) => Parsed::Faulty { line },
-                Lines::Count(n) => Parsed::Sheet {
-                    arrow,
-                    async_to_generator: to_generator,
-                    async_generator_functions: generators,
-                    rows: n,
-                    names: k,
-                    text: t,
-                },
-            }
-        }
-    }
-}
-
-// From line 3 on: the header of the names.
-fn from_third(
-    s: &[u8],
-    at: usize,
-    arrow: bool,
-    to_generator: bool,
-    generators: bool,
-    rows: &mut [u8],
-    pairs: &mut [u8],
-    text: &mut [u8],
-) -> Parsed
-    requires { (at ≤ length s.now) × (Room s.now rows.old pairs.old) }
-    ensures { Told (from_third (switches arrow to_generator generators) (lines (drop at s.now))) (length s.now) result
-        (lent rows.old rows.new pairs.old pairs.new text.old text.new) }
-{
-    if s.len() <= at {
-        return Parsed::Faulty { line: 3 };
-    }
-    let e = find(s, at, NEWLINE);
-    let next = next_line(s, e);
-    if is_name_header(s, at, e) {
-        return from_fourth(s, next, arrow, to_generator, generators, rows, pairs, text);
-    }
-    Parsed::Faulty { line: 3 }
-}
-
-// From line 2 on: the switches.
-fn from_second(s: &[u8], at: usize, rows: &mut [u8], pairs: &mut [u8], text: &mut [u8]) -> Parsed
-    requires { (at ≤ length s.now) × (Room s.now rows.old pairs.old) }
-    ensures { Told (from_second (lines (drop at s.now))) (length s.now) result
-        (lent rows.old rows.new pairs.old pairs.new text.old text.new) }
-{
-    if s.len() <= at {
-        return Parsed::Faulty { line: 2 };
-    }
-    let e = find(s, at, NEWLINE);
-    let next = next_line(s, e);
-    if switches_at(s, at, e) {
-        let arrow = is_on(s, at, e, 0);
-        let to_generator = is_on(s, at, e, 2);
-        let generators = is_on(s, at, e, 4);
-        return from_third(s, next, arrow, to_generator, generators, rows, pairs, text);
-    }
-    Parsed::Faulty { line: 2 }
-}
-
-// The lines of s: the header of the switches, and on.
-fn from_first(s: &[u8], rows: &mut [u8], pairs: &mut [u8], text: &mut [u8]) -> Parsed
-    requires { Room s.now rows.old pairs.old }
-    ensures { Told (from_first (lines s.now)) (length s.now) result
-        (lent rows.old rows.new pairs.old pairs.new text.old text.new) }
-{
-    if s.len() == 0 {
-        return Parsed::Faulty { line: 1 };
-    }
-    let e = find(s, 0, NEWLINE);
-    let next = next_line(s, e);
-    if is_switch_header(s, 0, e) {
-        return from_second(s, next, rows, pairs, text);
-    }
-    Parsed::Faulty { line: 1 }
+pub struct Sheet {
+    pub switches: Switches,
+    pub rows: usize,
+    pub names: usize,
+    pub text: usize,
 }
 
 // The longest text that is parsed. A sheet that is accepted has at most 114,738 bytes: 32 in its first three
@@ -213,10 +131,23 @@ pub const LONGEST: usize = 131072;
 
 // A text of any bytes. The parts of a sheet stand at the front of what was lent; at a fault, that may hold
 // anything.
-pub fn parse(s: &[u8], rows: &mut [u8], pairs: &mut [u8], text: &mut [u8]) -> Parsed
+pub fn parse(
+    s: &[u8],
+    rows: &mut [u8],
+    pairs: &mut [u8],
+    text: &mut [u8],
+) -> Result<Sheet, FaultyLine>
     requires { (length s.now ≤ 131072) × (16384 ≤ length rows.old) × (1048576 ≤ length pairs.old) × (131072 ≤ length text.old) }
     ensures { Told (sheet_of s.now) 131072 result
         (lent rows.old rows.new pairs.old pairs.new text.old text.new) }
 {
-    from_first(s, rows, pairs, text)
+    let (switches, rest) = read_head(s)?;
+    let names = read_names(rest, pairs, text)?;
+    let n = read_rows(names.rest, 5 + names.count, rows)?;
+    Ok(Sheet {
+        switches,
+        rows: n,
+        names: names.count,
+        text: names.text,
+    })
 }

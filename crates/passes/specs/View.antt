@@ -1,22 +1,63 @@
 -- The code's values as those of the steps. Assumes nothing.
-use Rattle.std.specs.Prelude.{◌≡◌}
+use Rattle.std.specs.Prelude.{ℕ, ◌≡◌}
+use Rattle.steps.specs.Slots.{free, of_method, body_of, late_body, wrapped, of_target, callee, dropped}
 use Rattle.steps.specs.Acts.{Op, Op.row, Op.drop, Op.name, Op.call}
+use Rattle.steps.specs.AfterSuper.{list, visit, copy, direct, once, heritage, members}
 use Rattle.steps.specs.Fused.{Pass}
+use Rattle.passes.specs.declared.slots.Slot.{Slot}
+use Rattle.passes.specs.declared.slots.Slot.TheVariants as slot
+use Rattle.passes.specs.declared.states.State.{State}
+use Rattle.passes.specs.declared.states.State.TheVariants as state
+use Rattle.passes.specs.declared.Capture.{Capture}
+use Rattle.passes.specs.declared.Capture.TheVariants as capture
+use Rattle.passes.specs.declared.Access.{Access}
+use Rattle.passes.specs.declared.Access.TheVariants as access
 use Rattle.passes.specs.declared.Becomes.{Becomes}
 use Rattle.passes.specs.declared.Becomes.TheVariants as becomes
 use Rattle.passes.specs.declared.Pass as answer
+
+-- a slot by its number
+abbrev pub slot_number : Slot → ℕ
+slot_number slot.Free = free
+slot_number slot.OfMethod = of_method
+slot_number slot.BodyOf = body_of
+slot_number slot.LateBody = late_body
+slot_number slot.Wrapped = wrapped
+slot_number slot.OfTarget = of_target
+slot_number slot.Callee = callee
+slot_number slot.Dropped = dropped
+
+-- a state of module 7 by its number
+abbrev pub state_number : State → ℕ
+state_number state.List = list
+state_number state.Visit = visit
+state_number state.Copy = copy
+state_number state.Direct = direct
+state_number state.Once = once
+state_number state.Heritage = heritage
+state_number state.Members = members
+
+-- uses by their numbers: 1 this, 2 arguments
+abbrev pub capture_number : Capture → ℕ
+capture_number capture.This = 1
+capture_number capture.Arguments = 2
+
+-- .. 3 get, 4 set
+abbrev pub access_number : Access → ℕ
+access_number access.Get = 3
+access_number access.Set = 4
 
 -- what becomes of a row
 unfoldable pub op_of : Becomes → Op
 op_of (becomes.Row k a n) = row k a n
 op_of becomes.Drop = drop
-op_of (becomes.Name u f) = name u f
-op_of (becomes.Call u f x t) = call u f x t
+op_of (becomes.Name u f) = name (capture_number u) f
+op_of (becomes.Call u f x t) = call (access_number u) f x t
 
 -- what module 7 says of a row, part by part
 pub record Says (r : answer.Pass) (p : Pass) : Type 0 where
   pub met : r.met ≡ p.met
   pub first : r.first ≡ p.first
-  pub scan : r.scan ≡ p.scan
-  pub next : r.next ≡ p.next
+  pub scan : state_number r.scan ≡ p.scan
+  pub next : state_number r.next ≡ p.next
   pub bind : r.bind ≡ p.bind

@@ -5,18 +5,34 @@
 pub mod slots;
 pub mod states;
 
-ghost use Rattle.std.specs.Prelude.{◌≡◌};
+ghost use Rattle.std.specs.Prelude.{◌≡◌, cond, ◌&&◌, ◌||◌, eqb};
+ghost use Rattle.grammar.specs.Kinds.{Block, Body, Class, Field, Function, Method, StaticBlock};
 ghost use Rattle.steps.specs.Mode.{bit};
 ghost use Rattle.steps.specs.Acts.{Op.row};
 ghost use Rattle.steps.specs.Bindings.{closes};
+ghost use Rattle.steps.specs.AfterSuper.{list, visit, copy, once, heritage, members};
 ghost use Rattle.steps.specs.Fused.{met_of, direct_of, within, own, scan_of, next_of, anew, pass_of};
-ghost use Rattle.passes.specs.View.{op_of, Says};
+ghost use Rattle.passes.specs.View.{slot_number, state_number, op_of, Says};
 
 use grammar::kinds::{
     BLOCK, BODY, CALL, CLASS, EXPR_STMT, FIELD, FUNCTION, METHOD, PROGRAM, STATIC_BLOCK,
 };
-use slots::{BODY_OF, LATE_BODY, WRAPPED};
-use states::{COPY, DIRECT, HERITAGE, LIST, MEMBERS, ONCE, VISIT};
+use slots::Slot;
+use states::State;
+
+// What is captured. The numbers are the uses in a binding's record.
+#[derive(Clone, Copy, PartialEq, Eq)]
+pub enum Capture {
+    This = 1,
+    Arguments = 2,
+}
+
+// What an accessor does. The numbers are the uses in a binding's record.
+#[derive(Clone, Copy, PartialEq, Eq)]
+pub enum Access {
+    Get = 3,
+    Set = 4,
+}
 
 // What becomes of a row.
 #[derive(Clone, Copy)]
@@ -31,12 +47,12 @@ pub enum Becomes {
     Drop,
     // A captured Ident, of that use and frame.
     Name {
-        usage: usize,
+        usage: Capture,
         frame: usize,
     },
     // A Call of the accessor of that use, frame and property; `called`: it is `get().call(this, ..)`.
     Call {
-        usage: usize,
+        usage: Access,
         frame: usize,
         property: usize,
         called: bool,
@@ -49,8 +65,8 @@ pub enum Becomes {
 pub struct Pass {
     pub met: bool,
     pub first: bool,
-    pub scan: usize,
-    pub next: usize,
+    pub scan: State,
+    pub next: State,
     pub bind: usize,
 }
 
@@ -63,167 +79,169 @@ fn low_bit(attr: usize) -> bool
 
 // "Any other called Super becomes a Sequence of itself and that assignment"; `sup`: its first child
 // is Super.
-fn met_of(sc: usize, kind: usize, sup: bool) -> bool
-    ensures { result ≡ met_of sc kind sup }
+fn met_of(state: State, kind: usize, sup: bool) -> bool
+    ensures { result ≡ met_of (state_number state) kind sup }
 {
-    (kind == CALL) & sup & ((sc == VISIT) | (sc == ONCE) | (sc == HERITAGE))
+    (kind == CALL) & sup & matches!(state, State::Visit | State::Once | State::Heritage)
 }
 
 // "In each list (a Body's or Block's children) the first direct `super(..)` statement"; `called`:
 // its first child is a Call of Super.
-fn direct_of(sc: usize, kind: usize, called: bool) -> bool
-    ensures { result ≡ direct_of sc kind called }
+fn direct_of(state: State, kind: usize, called: bool) -> bool
+    ensures { result ≡ direct_of (state_number state) kind called }
 {
-    (kind == EXPR_STMT) & called & (sc == LIST)
+    (kind == EXPR_STMT) & called & (state == State::List)
 }
 
 // The state inside of a row that the steps add.
-fn within(sc: usize) -> usize
-    ensures { result ≡ within sc }
+#[tactic(auto, unfolding(steps::specs::Fused::within))]
+fn within(state: State) -> State
+    ensures { state_number result ≡ within (state_number state) }
 {
-    if (sc == COPY) | (sc == MEMBERS) {
-        return COPY;
+    match state {
+        State::Copy | State::Members => State::Copy,
+        _ => State::Visit,
     }
-    VISIT
 }
 
 // The state of a row in that slot: "an expression body becomes a Body with one Return" around it.
-fn own(slot: usize, sc: usize) -> usize
-    ensures { result ≡ own slot sc }
+fn own(slot: Slot, state: State) -> State
+    ensures { state_number result ≡ own (slot_number slot) (state_number state) }
 {
-    if slot == WRAPPED {
-        return within(sc);
+    match slot {
+        Slot::Wrapped => within(state),
+        _ => state,
     }
-    sc
 }
 
 // The state of the rows after it: "the scan of that list stops".
-fn next_of(sc: usize, first: bool) -> usize
-    ensures { result ≡ next_of sc first }
+#[tactic(auto, unfolding(steps::specs::Fused::next_of))]
+fn next_of(state: State, first: bool) -> State
+    ensures { state_number result ≡ next_of (state_number state) first }
 {
-    if sc == HERITAGE {
-        return MEMBERS;
+    match state {
+        State::Heritage => State::Members,
+        State::Once | State::Direct => State::Copy,
+        _ if first => State::Copy,
+        _ => state,
     }
-    if (sc == ONCE) | (sc == DIRECT) | first {
-        return COPY;
-    }
-    sc
 }
 
 // Whether a row closes a frame: Program, StaticBlock, a Function's Body.
-pub fn closes(slot: usize, kind: usize) -> bool
-    ensures { result ≡ closes slot kind }
+pub fn closes(slot: Slot, kind: usize) -> bool
+    ensures { result ≡ closes (slot_number slot) kind }
 {
     (kind == PROGRAM)
         | (kind == STATIC_BLOCK)
-        | ((kind == BODY) & ((slot == BODY_OF) | (slot == LATE_BODY)))
+        | ((kind == BODY) & matches!(slot, Slot::BodyOf | Slot::LateBody))
 }
 
 // Module 8, "with module 7 run, in a constructor where a Super left in place has that constructor as
 // nearest Function": the children are such a Body's. `m` is the frame's captured `this`, 0 for none.
-fn anew(slot: usize, kind: usize, m: usize) -> bool
-    ensures { result ≡ anew slot kind m }
+fn anew(slot: Slot, kind: usize, m: usize) -> bool
+    ensures { result ≡ anew (slot_number slot) kind m }
 {
-    let closing = closes(slot, kind);
-    closing & ((slot == LATE_BODY) & !(m == 0))
+    closes(slot, kind) & ((slot == Slot::LateBody) & !(m == 0))
 }
 
-// The state of the children of a row that stays: "Functions and StaticBlocks are not entered; of a
-// Class only heritage and computed keys are."
-fn scan_row(sc: usize, met: bool, first: bool, kind: usize, attr: usize) -> usize
-    ensures { result ≡ scan_of sc met first (row kind attr 0) }
+// Inside of a Class: "only heritage and computed keys"; `keyed`: its key is computed.
+fn scan_member(kind: usize, keyed: bool) -> State
+    ensures { state_number result ≡ cond ((eqb kind Method || eqb kind Field) && keyed) once copy }
+{
+    if ((kind == METHOD) | (kind == FIELD)) & keyed {
+        State::Once
+    } else {
+        State::Copy
+    }
+}
+
+// The state of the children of a row that stays where rows are visited: "Functions and StaticBlocks
+// are not entered; of a Class only heritage and computed keys are." `set`: bit 0 of its attr.
+fn scan_kind(kind: usize, set: bool) -> State
+    ensures { state_number result ≡ cond (eqb kind Block || eqb kind Body) list (cond (eqb kind Function || eqb kind StaticBlock) copy (cond (eqb kind Class) (cond set heritage members) visit)) }
+{
+    match kind {
+        BLOCK | BODY => State::List,
+        FUNCTION | STATIC_BLOCK => State::Copy,
+        CLASS if set => State::Heritage,
+        CLASS => State::Members,
+        _ => State::Visit,
+    }
+}
+
+// The state of the children of a row that stays, of that kind and attr.
+fn scan_row(state: State, met: bool, first: bool, kind: usize, attr: usize) -> State
+    ensures { state_number result ≡ scan_of (state_number state) met first (row kind attr 0) }
 {
     let set = low_bit(attr);
-    if (sc == COPY) | met {
-        return COPY;
+    if (state == State::Copy) | met {
+        return State::Copy;
     }
-    if sc == DIRECT {
-        return VISIT;
+    if state == State::Direct {
+        return State::Visit;
     }
     if first {
-        return DIRECT;
+        return State::Direct;
     }
-    if sc == MEMBERS {
-        if ((kind == METHOD) | (kind == FIELD)) & set {
-            return ONCE;
-        }
-        return COPY;
+    if state == State::Members {
+        return scan_member(kind, set);
     }
-    if (kind == BLOCK) | (kind == BODY) {
-        return LIST;
-    }
-    if (kind == FUNCTION) | (kind == STATIC_BLOCK) {
-        return COPY;
-    }
-    if kind == CLASS {
-        if set {
-            return HERITAGE;
-        }
-        return MEMBERS;
-    }
-    VISIT
+    scan_kind(kind, set)
 }
 
 // The state of a row's children: "has its arguments visited"; "its arguments not visited".
 #[tactic(auto, unfolding(crate::specs::View::op_of, steps::specs::Fused::scan_of))]
-fn scan_of(sc: usize, met: bool, first: bool, op: Becomes) -> usize
-    ensures { result ≡ scan_of sc met first (op_of op) }
+fn scan_of(state: State, met: bool, first: bool, op: Becomes) -> State
+    ensures { state_number result ≡ scan_of (state_number state) met first (op_of op) }
 {
     match op {
-        Becomes::Row { kind, attr, name } => scan_row(sc, met, first, kind, attr),
-        Becomes::Drop => sc,
-        Becomes::Name { usage, frame } => COPY,
-        Becomes::Call {
-            usage,
-            frame,
-            property,
-            called,
-        } => within(sc),
+        Becomes::Row { kind, attr, .. } => scan_row(state, met, first, kind, attr),
+        Becomes::Drop => state,
+        Becomes::Name { .. } => State::Copy,
+        Becomes::Call { .. } => within(state),
     }
 }
 
-// What module 7 says of a row of that kind and slot, in a list of state `sc` where `b` is assigned.
+// What module 7 says of a row of that kind and slot, in a list of that state where `b` is assigned.
 pub fn pass_of(
     b: usize,
-    sc: usize,
-    slot: usize,
+    state: State,
+    slot: Slot,
     kind: usize,
     m: usize,
     sup: bool,
     called: bool,
     op: Becomes,
 ) -> Pass
-    ensures { Says result (pass_of b sc slot kind m sup called (op_of op)) }
+    ensures { Says result (pass_of b (state_number state) (slot_number slot) kind m sup called (op_of op)) }
 {
     // Nothing is visited, and no list starts anew: nearly every row.
-    if (sc == COPY) & !(slot == LATE_BODY) {
+    if (state == State::Copy) & !(slot == Slot::LateBody) {
         return Pass {
             met: false,
             first: false,
-            scan: COPY,
-            next: COPY,
+            scan: State::Copy,
+            next: State::Copy,
             bind: b,
         };
     }
-    let state = own(slot, sc);
-    let met = met_of(state, kind, sup);
-    let first = direct_of(state, kind, called);
-    let next = next_of(sc, first);
-    let fresh = anew(slot, kind, m);
-    if fresh {
+    let here = own(slot, state);
+    let met = met_of(here, kind, sup);
+    let first = direct_of(here, kind, called);
+    let next = next_of(state, first);
+    if anew(slot, kind, m) {
         return Pass {
             met,
             first,
-            scan: LIST,
+            scan: State::List,
             next,
             bind: m,
         };
     }
-    let scan = scan_of(state, met, first, op);
     Pass {
         met,
         first,
-        scan,
+        scan: scan_of(here, met, first, op),
         next,
         bind: b,
     }

@@ -9,13 +9,12 @@ use Rattle.names.specs.Words.{kind_at, attr_at, name_at}
 use Rattle.forest.specs.Forest.{Rows}
 use Rattle.steps.specs.Mode.{Switches, bit, async_only}
 use Rattle.steps.specs.Paths.{Step, Step.along, Step.in_params, Step.in_body, Step.in_arrow, Step.in_value, Step.in_static}
-use Rattle.steps.specs.Slots.{body_of, late_body, callee, dropped}
+use Rattle.steps.specs.Slots.{callee, dropped}
 use Rattle.steps.specs.Super.{first_name, first_inside}
 use Rattle.steps.specs.ArrowToFunction.{to_function?}
 use Rattle.steps.specs.Naming.{Names, named_arguments}
 use Rattle.steps.specs.Acts.{Ctx, Op, Op.row, Op.drop, Op.name, Kind, Kind.this, Kind.super, Kind.ident, Kind.access, Kind.assign, Kind.arrow, Kind.function, Kind.keyed, Kind.field, Kind.static, Kind.target, Kind.other, kind_of, reads?, sets?, act_of, act}
 use Rattle.steps.specs.Context.{Spot, enter, late_c, act_c}
-use Rattle.steps.proofs.Fewer.{is_function, slot_one, slot_more}
 use Rattle.below.specs.Below.{children}
 use Rattle.passes.specs.View.{op_of}
 use Rattle.acts.specs.Deciding.{spot_of, Does}
@@ -141,45 +140,12 @@ module _ (N : Names) (w : Switches) (l : Bool) (c : Ctx) (sl o k a n : ℕ) (i :
         more = subst (λ (s : Spot). FramesBelow cap s.ctx) (sym d.later) more-below;
       }
 
--- every slot of an act has a number
-one_slot_low : (N : Names) (w : Switches) (l : Bool) (c : Ctx) (sl o k a n : ℕ) (i : Rows) → (act N w l c sl o k a n i).one.slot < 8
-unfolding act
-one_slot_low N w l c sl o k a n i = slot_one N w l c sl o k a n i (λ (s : ℕ). s < 8) (omega arith) (omega arith) (omega arith) (omega arith) (omega arith) (kind_of k)
-
-late_slot_low : (l : Bool) → cond l late_body body_of < 8
-late_slot_low true = omega arith
-late_slot_low false = omega arith
-
-more_slot_low : (N : Names) (w : Switches) (l : Bool) (c : Ctx) (sl o k a n : ℕ) (i : Rows) → (act N w l c sl o k a n i).more.slot < 8
-unfolding act act_of is_function
-more_slot_low N w l c sl o k a n i = go (kind_of k)
-  where
-    else : (K : Kind) → is_function K ≡ false → (act_of N w l c sl o K k a n i).more.slot < 8
-    else K e = slot_more N w l c sl o k a n i (λ (s : ℕ). s < 8) (omega arith) (omega arith) (omega arith) K e
-
-    go : (K : Kind) → (act_of N w l c sl o K k a n i).more.slot < 8
-    go this = else this refl
-    go super = else super refl
-    go ident = else ident refl
-    go access = else access refl
-    go Kind.call = else Kind.call refl
-    go assign = else assign refl
-    go arrow = else arrow refl
-    go function = late_slot_low l
-    go keyed = else keyed refl
-    go field = else field refl
-    go static = else static refl
-    go target = else target refl
-    go other = else other refl
-
 -- the act that is decided in a spot has spots with numbers, and is the steps' act where it is handed on
 module _ (N : Names) (w : Switches) (l : Bool) (c : Ctx) (sl o k a n : ℕ) (i : Rows) {r : Decided} (d : Does w c (act N w l c sl o k a n i) r) where
   pub placeable : o < 16384 → FramesBelow 16384 c → Placeable r
   placeable low h = record {
     one = subst (λ (s : Spot). FramesBelow 16384 s.ctx) (sym d.first) (one_below N w l c sl o k a n i 16384 low h);
-    one_slot = subst (λ (s : Spot). s.slot < 8) (sym d.first) (one_slot_low N w l c sl o k a n i);
     more = subst (λ (s : Spot). FramesBelow 16384 s.ctx) (sym d.later) (more-below N w l c sl o k a n i 16384 low h);
-    more_slot = subst (λ (s : Spot). s.slot < 8) (sym d.later) (more_slot_low N w l c sl o k a n i);
   }
 
   pub handed : {s : Acted} → (s.op ≡ r.op) × ((place_of s.one ≡ spot_of r.one) × (place_of s.more ≡ spot_of r.more)) → Takes w c (act N w l c sl o k a n i) s

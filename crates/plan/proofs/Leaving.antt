@@ -128,8 +128,8 @@ module _ (ws : List ℕ) (n : ℕ) (good : Nested ws n) (i e : ℕ) (R : Range w
   }
 
 -- by the values that the code has: a Super that stays, and a row that is gone down into
-pub here_as : {k k' s s' : ℕ} → k ≡ k' → s ≡ s' → (eqb k' Super && not (eqb s' dropped)) ≡ (eqb k Super && not (eqb s dropped))
-here_as p q = rw (p, q) refl
+pub here_as : {k k' s s' : ℕ} {b : Bool} → k ≡ k' → b ≡ eqb s dropped → s ≡ s' → (eqb k' Super && not (eqb s' dropped)) ≡ (eqb k Super && not b)
+here_as p r q = rw (p, r, q) refl
 
 pub no_function : (k f x : ℕ) → (not (eqb k Function) && ltb f x) ≡ true → k ≡ Function → ⊥
 no_function k f x h e = true≢false (sym (subst (λ (m : ℕ). (not (eqb m Function) && ltb f x) ≡ true) e h))
@@ -165,8 +165,8 @@ module _ (N : Names) (w : Switches) (q : Spot) (o k a : ℕ) (i : Rows) (k' a' :
       go false h = absurd (true≢false h)
 
 -- what the walk of a Function's Params and Body says, by the places that the code has
-pub leaves-from : (N : Names) (w : Switches) (ws : List ℕ) (i a : ℕ) {s p one more : Spot} {x : ℕ} {r : Bool} → s ≡ p
-    → one ≡ into w s (by (in_params i a (eqb s.slot of_method)) free) → more ≡ into w s (by (in_body i a (eqb s.slot of_method)) free) → x ≡ end_at ws i
+pub leaves-from : (N : Names) (w : Switches) (ws : List ℕ) (i a : ℕ) {s p one more : Spot} {x : ℕ} {r m : Bool} → s ≡ p → m ≡ eqb s.slot of_method
+    → one ≡ into w s (by (in_params i a m) free) → more ≡ into w s (by (in_body i a m) free) → x ≡ end_at ws i
     → r ≡ leaves_c N w one more (i + 1) (rows_at ws (i + 1) x)
     → r ≡ leaves_c N w (into w p (by (in_params i a (eqb p.slot of_method)) free)) (into w p (by (in_body i a (eqb p.slot of_method)) free)) (i + 1) (children ws i)
-leaves-from N w ws i a {s} {p} {one} {more} {x} {r} e f g y h = h ∙ rw (f, g, y, e) refl
+leaves-from N w ws i a {s} {p} {one} {more} {x} {r} {m} e t f g y h = h ∙ rw (f, g, y, t, e) refl

@@ -1,5 +1,5 @@
 -- An act with the places of a row's children in numbers. Assumes nothing.
-use Rattle.std.specs.Prelude.{◌≡◌, ℕ, ◌<◌}
+use Rattle.std.specs.Prelude.{◌≡◌, ℕ}
 use Rattle.steps.specs.Mode.{Switches}
 use Rattle.steps.specs.Acts.{Ctx, Act as StepsAct}
 use Rattle.steps.specs.Context.{enter, spot}
@@ -25,6 +25,4 @@ pub record ActLow (cap : ℕ) (r : Act) : Type 0 where
 -- the spots of an act have a number
 pub record Placeable (r : Decided) : Type 0 where
   pub one : FramesBelow 16384 (context_of r.one.context)
-  pub one_slot : r.one.slot < 8
   pub more : FramesBelow 16384 (context_of r.more.context)
-  pub more_slot : r.more.slot < 8

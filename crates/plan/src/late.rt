@@ -19,7 +19,7 @@ use acts::act::Spot;
 use acts::switches::{Switches, has_bit};
 use below::{attr_at, end_at, kind_at};
 use grammar::kinds::{FUNCTION, SUPER};
-use passes::slots::{DROPPED, FREE, OF_METHOD};
+use passes::slots::Slot;
 
 // Whether a Super stays in the rows from `from` to `end`, outside of further Functions. The first row
 // is at `one`, the later ones are at `more`.
@@ -39,11 +39,12 @@ fn leaves(
 {
     let mut i = from;
     let mut q = one;
+    // From sibling to sibling, each where the one before ends: no range has these steps.
     while i < end {
         let kind = kind_at(rows, i);
         let stop = end_at(rows, i);
         let slot = q.slot();
-        if (kind == SUPER) & !(slot == DROPPED) {
+        if (kind == SUPER) & !(slot == Slot::Dropped) {
             return true;
         }
         let first = i + 1;
@@ -77,14 +78,14 @@ fn function_leaves(
 {
     let spot = q.spot();
     let context = spot.context;
-    let method = spot.slot == OF_METHOD;
+    let method = spot.slot == Slot::OfMethod;
     let params = Spot {
         context: context.in_params(switches, i, attr, method),
-        slot: FREE,
+        slot: Slot::Free,
     };
     let body = Spot {
         context: context.in_body(switches, i, attr, method),
-        slot: FREE,
+        slot: Slot::Free,
     };
     let stop = end_at(rows, i);
     leaves(

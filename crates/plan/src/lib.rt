@@ -140,23 +140,14 @@ pub fn row_act(
     ensures small { Small (words rows.now) i }
 {
     let row = words_at(rows, i);
-    let kind = row.kind;
-    if kind == THIS {
-        return this_act(q, row);
+    match row.kind {
+        THIS => this_act(q, row),
+        METHOD => method_act(q, row),
+        BODY => body_act(q, row),
+        FUNCTION => function_act(q, row, switches, i, late),
+        ARROW => arrow_act(q, row, switches, i, late),
+        _ => any_act(rows, names, text, switches, q, row, i, late),
     }
-    if kind == METHOD {
-        return method_act(q, row);
-    }
-    if kind == BODY {
-        return body_act(q, row);
-    }
-    if kind == FUNCTION {
-        return function_act(q, row, switches, i, late);
-    }
-    if kind == ARROW {
-        return arrow_act(q, row, switches, i, late);
-    }
-    any_act(rows, names, text, switches, q, row, i, late)
 }
 
 // The same, for the walks: small, so that it is compiled into them, and they copy what becomes of the row part by part.

@@ -13,8 +13,8 @@ use crate::place::Place;
 use crate::{Act, hand_on};
 use acts::act::{Words, on_arrow, on_function};
 use acts::switches::{Switches, has_bit};
-use passes::Becomes;
-use passes::slots::OF_METHOD;
+use passes::slots::Slot;
+use passes::{Becomes, Capture};
 
 // A This: module 3.
 pub fn this_act(q: Place, row: Words) -> Act
@@ -25,7 +25,7 @@ pub fn this_act(q: Place, row: Words) -> Act
     if q.takes_this() {
         return Act {
             op: Becomes::Name {
-                usage: 1,
+                usage: Capture::This,
                 frame: q.this_at(),
             },
             one: inside,
@@ -48,7 +48,7 @@ pub fn method_act(q: Place, row: Words) -> Act
     requires { row.kind ≡ 21 }
     ensures { (N : Names) (w : Target) (l : Bool) (o : ℕ) (i : Rows) → Takes w (place_of q).ctx (act N w l (place_of q).ctx (place_of q).slot o row.kind row.attr row.name i) result }
 {
-    let more = q.within(OF_METHOD);
+    let more = q.within(Slot::OfMethod);
     let op = Becomes::Row {
         kind: row.kind,
         attr: row.attr,

@@ -1,7 +1,8 @@
 // A spot in one number, so that the walks hand it on in a register.
-ghost use Rattle.std.specs.Prelude.{◌≡◌, cond, ◌<◌};
+ghost use Rattle.std.specs.Prelude.{◌≡◌, cond, ◌<◌, ◌%◌};
 ghost use Rattle.steps.specs.Context.{spot, start};
 ghost use Rattle.steps.specs.Slots.{free};
+ghost use Rattle.passes.specs.View.{slot_number};
 ghost use Rattle.acts.specs.View.{context_of};
 ghost use Rattle.acts.specs.Deciding.{spot_of};
 ghost use Rattle.plan.specs.Frames.{FramesBelow};
@@ -9,7 +10,7 @@ ghost use Rattle.plan.specs.Placing.{place_of};
 
 use acts::act::Spot;
 use acts::context::{Context, at_program};
-use passes::slots::FREE;
+use passes::slots::Slot;
 
 // Bits 0 to 2: slot. Bit 3: takes_this. Bit 4: takes_super. Bit 5: takes_arguments. Bits 6 to 19:
 // this_at. Bits 20 to 33: super_at. Bits 34 to 47: arguments_at.
@@ -35,15 +36,16 @@ impl Place {
         };
         Spot {
             context,
-            slot: code % 8,
+            slot: slot_in(code),
         }
     }
 
     // Its slot.
-    pub fn slot(self) -> usize
-        ensures { result ≡ (place_of self).slot }
+    #[tactic(auto, unfolding(crate::specs::Placing::place_of))]
+    pub fn slot(self) -> Slot
+        ensures { slot_number result ≡ (place_of self).slot }
     {
-        self.code % 8
+        slot_in(self.code)
     }
 
     // Its frame of `this`.
@@ -55,6 +57,7 @@ impl Place {
     }
 
     // Whether it captures `this`.
+    #[tactic(auto, unfolding(crate::specs::Placing::place_of))]
     pub fn takes_this(self) -> bool
         ensures { result ≡ (place_of self).ctx.takes_this }
     {
@@ -62,12 +65,11 @@ impl Place {
     }
 
     // The same context, in that slot.
-    pub fn within(self, slot: usize) -> Place
-        requires { slot < 8 }
-        ensures { place_of result ≡ spot (place_of self).ctx slot }
+    pub fn within(self, slot: Slot) -> Place
+        ensures { place_of result ≡ spot (place_of self).ctx (slot_number slot) }
     {
         Place {
-            code: slot + 8 * (self.code / 8),
+            code: slot as usize + 8 * (self.code / 8),
         }
     }
 
@@ -81,6 +83,22 @@ impl Place {
     }
 }
 
+// The slot whose number stands in the lowest three bits.
+fn slot_in(code: usize) -> Slot
+    ensures { slot_number result ≡ code % 8 }
+{
+    match code % 8 {
+        0 => Slot::Free,
+        1 => Slot::OfMethod,
+        2 => Slot::BodyOf,
+        3 => Slot::LateBody,
+        4 => Slot::Wrapped,
+        5 => Slot::OfTarget,
+        6 => Slot::Callee,
+        _ => Slot::Dropped,
+    }
+}
+
 // A flag as a number: 1 or 0.
 fn bit(flag: bool) -> usize
     ensures value { result ≡ cond flag 1 0 }
@@ -91,8 +109,7 @@ fn bit(flag: bool) -> usize
 
 // A spot as a place.
 pub fn placed(spot: Spot) -> Place
-    requires frames_below { FramesBelow 16384 (context_of spot.context) }
-    requires slot_bound { spot.slot < 8 }
+    requires { FramesBelow 16384 (context_of spot.context) }
     ensures { place_of result ≡ spot_of spot }
 {
     let context = spot.context;
@@ -101,7 +118,8 @@ pub fn placed(spot: Spot) -> Place
     let takes_arguments = bit(context.takes_arguments);
     let frames = context.this_at + 16384 * (context.super_at + 16384 * context.arguments_at);
     Place {
-        code: spot.slot + 8 * (takes_this + 2 * (takes_super + 2 * (takes_arguments + 2 * frames))),
+        code: spot.slot as usize
+            + 8 * (takes_this + 2 * (takes_super + 2 * (takes_arguments + 2 * frames))),
     }
 }
 
@@ -111,7 +129,7 @@ pub fn program() -> Place
 {
     let spot = Spot {
         context: at_program(),
-        slot: FREE,
+        slot: Slot::Free,
     };
     placed(spot)
 }

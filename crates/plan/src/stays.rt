@@ -10,7 +10,7 @@ use grammar::kinds::{
     ARGUMENTS, ASSIGN, BLOCK, CALL, CLASS, COMPUTED, DECLARATOR, EXPR_STMT, IDENT, MEMBER, OBJECT,
     OPAQUE, OTHER, PARAMS, PROPERTY, RETURN, SEQUENCE, SUPER, THIS, VAR,
 };
-use passes::slots::{DROPPED, WRAPPED};
+use passes::slots::Slot;
 
 // Whether no rule of modules 3 to 8 is about a row of that kind.
 fn is_plain(kind: usize) -> bool
@@ -37,14 +37,16 @@ pub fn stays(switches: Switches, q: Place, kind: usize, attr: usize) -> bool
     let spot = q.spot();
     let context = spot.context;
     let slot = spot.slot;
-    if slot == WRAPPED {
+    if slot == Slot::Wrapped {
         return false;
     }
+    // One test after the other: as a match on the kind, which becomes a jump through a table, the walks
+    // take 3 per cent more instructions.
     if kind == THIS {
         return !context.takes_this;
     }
     if kind == SUPER {
-        return !(slot == DROPPED);
+        return !(slot == Slot::Dropped);
     }
     if kind == IDENT {
         return !(switches.is_async_only() & context.takes_arguments);

@@ -1,5 +1,6 @@
 -- "The sheet the program prints", as a list of bytes. Assumes nothing.
-use Rattle.std.specs.Prelude.{List, [], ◌∷◌, ◌++◌, ℕ, ◌+◌, ◌*◌, ◌/◌, length, get_or}
+use Rattle.std.specs.Prelude.{List, [], ◌∷◌, ◌++◌, map, ℕ, zero, suc, ◌+◌, ◌*◌, ◌/◌, length, get_or}
+use Rattle.std.specs.List.{range_with_len}
 use Rattle.decimal.specs.Decimal.{decimal}
 use Rattle.fields.specs.Headers.{answer_header, row_header, record_header}
 
@@ -34,9 +35,11 @@ printed number place rows records =
     headed answer_header ++ (line (number ∷ place ∷ length rows / 4 ∷ length records / 3 ∷ [])
     ++ (headed row_header ++ (row_lines rows ++ (headed record_header ++ record_lines records))))
 
--- the line of row i, and of record i
-abbrev pub row_line : List ℕ → ℕ → List ℕ
-row_line ws i = line (get_or ws (4 * i) 0 ∷ get_or ws (4 * i + 1) 0 ∷ get_or ws (4 * i + 2) 0 ∷ get_or ws (4 * i + 3) 0 ∷ [])
+-- row i of some words, n a row
+abbrev pub row_at : (n : ℕ) → List ℕ → ℕ → List ℕ
+row_at n ws i = map (λ j. get_or ws (n * i + j) 0) (range_with_len 0 n)
 
-abbrev pub record_line : List ℕ → ℕ → List ℕ
-record_line ws i = line (get_or ws (3 * i) 0 ∷ get_or ws (3 * i + 1) 0 ∷ get_or ws (3 * i + 2) 0 ∷ [])
+-- the lines of the first k rows
+unfoldable pub lines_of : (n k : ℕ) → List ℕ → List ℕ
+lines_of n zero ws = []
+lines_of n (suc k) ws = lines_of n k ws ++ line (row_at n ws k)

@@ -6,7 +6,7 @@
 ghost use Rattle.std.specs.Prelude.{◌≡◌, List, [], ◌∷◌, ◌++◌, ℕ, ◌+◌, ◌*◌, ◌/◌, ◌≤◌, ◌<◌, ◌^◌, length, get_or};
 ghost use Rattle.names.specs.Words.{words};
 ghost use Rattle.decimal.specs.Decimal.{decimal, Wrote};
-ghost use Rattle.printer.specs.Print.{line, row_line, row_lines, record_line, record_lines, printed};
+ghost use Rattle.printer.specs.Print.{line, row_at, lines_of, printed};
 
 use decimal::{put_byte, put_bytes, put_number};
 use names::words::cell;
@@ -24,84 +24,42 @@ fn put_field(out: &mut [u8], at: usize, n: u32, b: u8) -> usize
     put_byte(out, next, b)
 }
 
-// A line of four numbers.
-fn put_four(out: &mut [u8], at: usize, a: u32, b: u32, c: u32, d: u32) -> usize
-    requires { at < 2 ^ 60 }
-    ensures { (Wrote out.old at (line (a ∷ b ∷ c ∷ d ∷ [])) result out.new) × (result ≤ at + 44) }
+// A line of some numbers.
+fn put_line(out: &mut [u8], at: usize, numbers: &[u32]) -> usize
+    requires { (at < 2 ^ 60) × (length numbers.now < 2 ^ 40) }
+    ensures { (Wrote out.old at (line numbers.now) result out.new) × (0 < length numbers.now → result ≤ at + 11 * length numbers.now) }
 {
-    let i = put_field(out, at, a, SPACE);
-    let j = put_field(out, i, b, SPACE);
-    let k = put_field(out, j, c, SPACE);
-    put_field(out, k, d, NEWLINE)
-}
-
-// A line of three numbers.
-fn put_three(out: &mut [u8], at: usize, a: u32, b: u32, c: u32) -> usize
-    requires { at < 2 ^ 60 }
-    ensures { (Wrote out.old at (line (a ∷ b ∷ c ∷ [])) result out.new) × (result ≤ at + 33) }
-{
-    let i = put_field(out, at, a, SPACE);
-    let j = put_field(out, i, b, SPACE);
-    put_field(out, j, c, NEWLINE)
-}
-
-// Row i of some bytes, a line.
-fn put_row(out: &mut [u8], at: usize, rows: &[u8], i: usize) -> usize
-    requires { (at < 2 ^ 60) × (16 * i + 16 ≤ length rows.now) }
-    ensures { (Wrote out.old at (row_line (words rows.now) i) result out.new) × (result ≤ at + 44) }
-{
-    let b = 4 * i;
-    put_four(
-        out,
-        at,
-        word(rows, b),
-        word(rows, b + 1),
-        word(rows, b + 2),
-        word(rows, b + 3),
-    )
-}
-
-// A line for each row.
-fn put_rows(out: &mut [u8], at: usize, rows: &[u8]) -> usize
-    requires { (at < 2 ^ 40) × (length rows.now < 2 ^ 40) }
-    ensures { (Wrote out.old at (row_lines (words rows.now)) result out.new) × (result ≤ at + 44 * (length rows.now / 16)) }
-{
-    let n = rows.len() / 16;
-    let mut i: usize = 0;
+    let Some((last, rest)) = numbers.split_last() else {
+        return put_byte(out, at, NEWLINE);
+    };
     let mut to = at;
-    while i < n {
-        to = put_row(out, to, rows, i);
-        i += 1;
+    for n in rest {
+        to = put_field(out, to, *n, SPACE);
     }
-    to
+    put_field(out, to, *last, NEWLINE)
 }
 
-// Record i of some bytes, a line.
-fn put_record(out: &mut [u8], at: usize, records: &[u8], i: usize) -> usize
-    requires { (at < 2 ^ 60) × (12 * i + 12 ≤ length records.now) }
-    ensures { (Wrote out.old at (record_line (words records.now) i) result out.new) × (result ≤ at + 33) }
+// Words N * i to N * i + N of some bytes.
+fn row<const N: usize>(bytes: &[u8], i: usize) -> [u32; N]
+    requires { (4 * (N * i + N) ≤ length bytes.now) × (length bytes.now < 2 ^ 40) }
+    ensures { result ≡ row_at N (words bytes.now) i }
 {
-    let b = 3 * i;
-    put_three(
-        out,
-        at,
-        word(records, b),
-        word(records, b + 1),
-        word(records, b + 2),
-    )
+    let mut numbers = [0; N];
+    for j in 0..N {
+        numbers[j] = word(bytes, N * i + j);
+    }
+    numbers
 }
 
-// A line for each record.
-fn put_records(out: &mut [u8], at: usize, records: &[u8]) -> usize
-    requires { (at < 2 ^ 50) × (length records.now < 2 ^ 40) }
-    ensures { (Wrote out.old at (record_lines (words records.now)) result out.new) × (result ≤ at + 33 * (length records.now / 12)) }
+// A line for each N words of some bytes.
+fn put_rows<const N: usize>(out: &mut [u8], at: usize, bytes: &[u8]) -> usize
+    requires { (0 < N) × (N ≤ 4) × (at < 2 ^ 50) × (length bytes.now < 2 ^ 40) }
+    ensures { (Wrote out.old at (lines_of N (length bytes.now / (4 * N)) (words bytes.now)) result out.new)
+        × (result ≤ at + 11 * (N * (length bytes.now / (4 * N)))) }
 {
-    let n = records.len() / 12;
-    let mut i: usize = 0;
     let mut to = at;
-    while i < n {
-        to = put_record(out, to, records, i);
-        i += 1;
+    for i in 0..bytes.len() / (4 * N) {
+        to = put_line(out, to, &row::<N>(bytes, i));
     }
     to
 }
@@ -120,7 +78,7 @@ fn put_answer(
 {
     let n = (rows.len() / 16) as u32;
     let m = (records.len() / 12) as u32;
-    put_four(out, at, number, place, n, m)
+    put_line(out, at, &[number, place, n, m])
 }
 
 // The whole answer: the bytes of its rows and of its records, of which a refusal has none.
@@ -132,9 +90,9 @@ pub fn print(number: u32, place: u32, rows: &[u8], records: &[u8], out: &mut [u8
     let i = put_bytes(out, 0, b"refusal place rows bindings\n");
     let j = put_answer(out, i, number, place, rows, records);
     let k = put_bytes(out, j, b"kind attr name end\n");
-    let l = put_rows(out, k, rows);
+    let l = put_rows::<4>(out, k, rows);
     let m = put_bytes(out, l, b"use property owner\n");
-    put_records(out, m, records)
+    put_rows::<3>(out, m, records)
 }
 
 // Word k of some bytes.

@@ -7,12 +7,12 @@ use lib.ListN.{length}
 use Rattle.names.specs.Words.{words, end_at, rows_in, names_in}
 use Rattle.forest.specs.Forest.{Rows, Rows.none, Rows.node, size, flat, table, Table}
 use Rattle.rows.specs.Sound.{SoundTable}
-use Rattle.rows.specs.Refusals.{checked}
-use Rattle.rows.specs.declared.Checked.TheVariants.{Sound}
+use Rattle.rows.specs.Refusals.{checked, Sound}
 use Rattle.forest.proofs.Accepting.{length-flat}
 use Rattle.rows.proofs.Soundness.{sound, words_long}
 use Rattle.spelling.specs.Spelling.{GivenNames}
 use Rattle.refusals.specs.Given.{GivenRows}
+use Rattle.std.specs.Prelude.{Ok, Err, Result}
 
 -- row 0 of a whole table ends at the row count
 root_end : (names : ℕ) (f : Rows) (n : ℕ) → Table names f → length (flat 0 f) ≡ 4 * n → end_at (flat 0 f) 0 ≡ n

@@ -1,25 +1,30 @@
 -- Refusal 6: what rows are told, by numbers, and the first Super that its owner does not allow. Assumes nothing.
 use mathlib.Core.Path.{◌≡◌, refl, ap, sym, ◌∙◌}
 use mathlib.Core.List.{List}
-use Prim.Native.Nat.{ℕ, zero, suc, ◌+◌, ◌*◌, ◌%◌, ◌<◌, ◌≤◌}
+use Prim.Native.Nat.{ℕ, ◌+◌, ◌*◌, ◌%◌, ◌≤◌}
 use mathlib.Core.Bool.{Bool, true, false, cond, not, ◌&&◌, ◌||◌}
 use lib.Dec.{eqb}
 use lib.ListN.{get_or, replicate, length-replicate}
 use native.Mathlib.Omega.{arith}
 use borrow.Author.Tests.{ne_eqb}
-use Rattle.grammar.specs.Kinds.{Program, Super, Call, Function, Field, StaticBlock}
+use denote.Enum.Declared.{tag_of}
+use mir.Val.{bool_byte as from_bool}
+use Rattle.grammar.specs.Kinds.{Program, Call, Function, Field, StaticBlock}
 use Rattle.names.specs.Words.{words, kind_at, attr_at}
-use Rattle.forest.specs.Told.{told_by}
+use Rattle.forest.specs.Told.{told_by, first_then}
 use Rattle.names.specs.First.{first}
 use Rattle.names.proofs.Zeros.{zeros}
 use Rattle.forest.specs.Forest.{rows_at}
 use Rattle.rows.proofs.Soundness.{words_long}
 use Rattle.forest.proofs.Telling.{told-zero}
 use Rattle.steps.specs.Mode.{bit}
-use Rattle.steps.specs.Refusals.{Keeper, Keeper.plain, Keeper.builder, Keeper.method, Keeper.member, method_holder, allows, seek, sixes, outer}
+use Rattle.steps.specs.Refusals.{Keeper, Keeper.plain, Keeper.builder, Keeper.method, Keeper.member, method_holder, seek, sixes, outer}
 use Rattle.steps.proofs.Told.{tells, by-told, seek_as}
 use Rattle.refusals.specs.Given.{GivenRows, Clear}
-use Rattle.refusals.specs.Standing.{keeper_no, keeper_at, stand_no, stand_at, owner_for, stand_for, first_then, stand_told, super_bad}
+use Rattle.refusals.specs.contracts.standing.Sort.{the_type}
+use Rattle.refusals.specs.declared.standing.Sort.{Sort}
+use Rattle.refusals.specs.declared.standing.Sort.TheVariants.{Plain, Builder, MethodLike, Member}
+use Rattle.refusals.specs.Standing.{keeper_of, keeper_no, keeper_at, stand_no, stand_at, owner_for, stand_for, stand_told, super_bad}
 
 -- a Stand's number stands for it
 back : (o : Keeper) (m c : Bool) → stand_at (stand_no (record { owner = o; of_method = m; called = c })) ≡ record { owner = o; of_method = m; called = c }
@@ -41,69 +46,58 @@ back member true false = refl
 back member false true = refl
 back member false false = refl
 
-back_to : (m : ℕ) → m < 4 → keeper_no (keeper_at m) ≡ m
-unfolding keeper_no keeper_at
-back_to zero h = refl
-back_to (suc zero) h = refl
-back_to (suc (suc zero)) h = refl
-back_to (suc (suc (suc zero))) h = refl
-back_to (suc (suc (suc (suc m)))) h = absurd (omega arith)
-
 -- P: Program, F: Function, S: StaticBlock, L: Field, B: it has a key, A: a constructor, M: method-like
-owner_cases : (first P F S L B A M : Bool) (o : Keeper) (w : ℕ) → keeper_no o ≡ w →
-    keeper_no (cond first (cond P plain (cond F (cond A builder (cond M method plain)) (cond S member (cond L (cond B o member) o)))) (cond P plain (cond F (cond A builder (cond M method plain)) (cond (S || L) member o))))
-    ≡ cond P 0 (cond F (cond A 1 (cond M 2 0)) (cond S 3 (cond (L && not (first && B)) 3 w)))
-unfolding keeper_no
-owner_cases true true F S L B A M o w h = refl
-owner_cases true false true S L B true M o w h = refl
-owner_cases true false true S L B false true o w h = refl
-owner_cases true false true S L B false false o w h = refl
-owner_cases true false false true L B A M o w h = refl
-owner_cases true false false false true true A M o w h = h
-owner_cases true false false false true false A M o w h = refl
-owner_cases true false false false false B A M o w h = h
-owner_cases false true F S L B A M o w h = refl
-owner_cases false false true S L B true M o w h = refl
-owner_cases false false true S L B false true o w h = refl
-owner_cases false false true S L B false false o w h = refl
-owner_cases false false false true L B A M o w h = refl
-owner_cases false false false false true B A M o w h = refl
-owner_cases false false false false false B A M o w h = h
+owner_cases : (first P F S L B A M : Bool) (o : Keeper) →
+    cond first (cond P plain (cond F (cond A builder (cond M method plain)) (cond S member (cond L (cond B o member) o)))) (cond P plain (cond F (cond A builder (cond M method plain)) (cond (S || L) member o)))
+    ≡ cond P plain (cond F (cond A builder (cond M method plain)) (cond S member (cond (L && not (first && B)) member o)))
+owner_cases true true F S L B A M o = refl
+owner_cases true false true S L B A M o = refl
+owner_cases true false false true L B A M o = refl
+owner_cases true false false false true true A M o = refl
+owner_cases true false false false true false A M o = refl
+owner_cases true false false false false B A M o = refl
+owner_cases false true F S L B A M o = refl
+owner_cases false false true S L B A M o = refl
+owner_cases false false false true L B A M o = refl
+owner_cases false false false false true B A M o = refl
+owner_cases false false false false false B A M o = refl
 
 -- the owner as the code finds it
 pub owner_is : (first : Bool) (v k a : ℕ) →
-    owner_for first v k a ≡ cond (eqb k Program) 0 (cond (eqb k Function) (cond (bit 4 a) 1 (cond (bit 4 v) 2 0)) (cond (eqb k StaticBlock) 3 (cond (eqb k Field && not (first && bit 1 a)) 3 (v % 4))))
+    owner_for first v k a ≡ keeper_no (cond (eqb k Program) plain (cond (eqb k Function) (cond (bit 4 a) builder (cond (bit 4 v) method plain)) (cond (eqb k StaticBlock) member (cond (eqb k Field && not (first && bit 1 a)) member (keeper_at (v % 4))))))
 unfolding owner_for stand_at
-owner_is first v k a = owner_cases first (eqb k Program) (eqb k Function) (eqb k StaticBlock) (eqb k Field) (bit 1 a) (bit 4 a) (bit 4 v) (keeper_at (v % 4)) (v % 4) (back_to (v % 4) (omega arith))
+owner_is first v k a = ap keeper_no (owner_cases first (eqb k Program) (eqb k Function) (eqb k StaticBlock) (eqb k Field) (bit 1 a) (bit 4 a) (bit 4 v) (keeper_at (v % 4)))
 
 and-true : (x : Bool) → x ≡ (x && true)
 and-true true = refl
 and-true false = refl
 
-pub stand_is : (first : Bool) (v k a : ℕ) → stand_for first v k a ≡ owner_for first v k a + cond (method_holder k a && not (first && bit 1 a)) 4 0 + cond (first && eqb k Call) 8 0
+bits : (o : ℕ) (m c : Bool) → o + cond m 4 0 + cond c 8 0 ≡ o + 4 * from_bool m + 8 * from_bool c
+bits o true true = refl
+bits o true false = refl
+bits o false true = refl
+bits o false false = refl
+
+-- a sort's number is the one that the code gives it
+tag_is : (o : Sort) → tag_of the_type o ≡ keeper_no (keeper_of o)
+unfolding keeper_no
+tag_is Plain = refl
+tag_is Builder = refl
+tag_is MethodLike = refl
+tag_is Member = refl
+
+stand-cases : (first : Bool) (v k a : ℕ) → stand_for first v k a ≡ owner_for first v k a + cond (method_holder k a && not (first && bit 1 a)) 4 0 + cond (first && eqb k Call) 8 0
 unfolding stand_for stand_no owner_for sixes
-stand_is true v k a = refl
-stand_is false v k a = ap (λ (x : Bool). owner_for false v k a + cond x 4 0 + 0) (and-true (method_holder k a))
+stand-cases true v k a = refl
+stand-cases false v k a = ap (λ (x : Bool). owner_for false v k a + cond x 4 0 + 0) (and-true (method_holder k a))
 
-bad_cases : (x y z c : Bool) → not (allows (cond x plain (cond y builder (cond z method member))) c) ≡ (x || not y && c)
-unfolding allows
-bad_cases true y z c = refl
-bad_cases false true z c = refl
-bad_cases false false true true = refl
-bad_cases false false true false = refl
-bad_cases false false false true = refl
-bad_cases false false false false = refl
-
-pub bad-is : (v k : ℕ) → super_bad v k ≡ (eqb k Super && (eqb (v % 4) 0 || not (eqb (v % 4) 1) && bit 8 v))
-unfolding super_bad stand_at keeper_at
-bad-is v k = ap (λ (x : Bool). eqb k Super && x) (bad_cases (eqb (v % 4) 0) (eqb (v % 4) 1) (eqb (v % 4) 2) (bit 8 v))
+-- what is told as the code finds it
+pub stand_is : (first : Bool) (v k a : ℕ) (o : Sort) → keeper_no (keeper_of o) ≡ owner_for first v k a
+    → tag_of the_type o + 4 * from_bool (method_holder k a && not (first && bit 1 a)) + 8 * from_bool (first && eqb k Call) ≡ stand_for first v k a
+stand_is first v k a o q = rw (tag_is o, q) (sym (stand-cases first v k a ∙ bits _ _ _))
 
 steady : (v k a pos : ℕ) → stand_told v k a (pos + 1) ≡ stand_told v k a 1
 steady v k a pos = rw (ne_eqb (pos + 1) 0 (λ e. omega arith))
-
--- a later child's value
-pub then-more : (one more pos c : ℕ) → first_then one more (pos + 1) c ≡ more
-then-more one more pos c = rw (ne_eqb (pos + 1) 0 (λ e. omega arith))
 
 -- what row p, which was told v, tells its child at position pos
 abbrev pub told_from : List ℕ → ℕ → ℕ → ℕ → ℕ → ℕ

@@ -1,4 +1,5 @@
 -- Refusal 7: the next hit from a row on, and the first Field whose value reaches it. Assumes nothing.
+use Rattle.std.specs.Prelude.{Option, Some, None}
 use mathlib.Core.Path.{◌≡◌, refl, ap, sym, subst, ◌∙◌}
 use mathlib.Core.List.{List}
 use Prim.Native.Nat.{ℕ, zero, suc, ◌+◌, ◌*◌, ◌-◌, ◌≤◌, ◌<◌}
@@ -14,8 +15,6 @@ use Rattle.grammar.specs.Kinds.{Field}
 use Rattle.names.specs.Words.{words, kind_at, attr_at, name_at, end_at}
 use Rattle.names.specs.First.{first}
 use Rattle.forest.specs.Nested.{Nested}
-use Rattle.names.specs.declared.Found.{Found}
-use Rattle.names.specs.declared.Found.TheVariants.{At, Nothing}
 use Rattle.forest.specs.Forest.{rows_at}
 use Rattle.names.proofs.Bools.{lt_or_ge}
 use Rattle.rows.proofs.Soundness.{words_long}
@@ -113,7 +112,7 @@ module _ (ws : List ℕ) (b : Bool) where
   test j = field_bad b j (kind_at ws j) (attr_at ws j) (name_at ws j) (end_at ws j) (drop (4 * (j + 1)) ws)
 
   -- the visit from the last row on, before row i, with an array of m entries: the next hits of the rows that were visited, and the first Field among them
-  pub record Since (n m : ℕ) (next : List ℕ) (low : ℕ) (found : Found) (i : ℕ) : Type 0 where
+  pub record Since (n m : ℕ) (next : List ℕ) (low : ℕ) (found : Option ℕ) (i : ℕ) : Type 0 where
     pub left : i ≤ n
     pub size : length next ≡ m
     pub room : n ≤ m
@@ -121,11 +120,11 @@ module _ (ws : List ℕ) (b : Bool) where
     pub known : (j : ℕ) → i ≤ j → j < n → get_or next j 0 ≡ next_hit ws b (n - j) j
     pub same : found ≡ first test (n - i) i
 
-  pub since_start : (n : ℕ) (next : List ℕ) → n ≤ length next → Since n (length next) next n Nothing n
+  pub since_start : (n : ℕ) (next : List ℕ) → n ≤ length next → Since n (length next) next n None n
   unfolding next_hit first
   since_start n next l = let z : n - n ≡ 0 = omega arith in record { left = omega arith; size = refl; room = l; lowest = rw z; known = λ j x y. absurd (omega arith); same = rw z }
 
-  module _ (n m : ℕ) (next : List ℕ) (low : ℕ) (found : Found) (i : ℕ) (h : 0 < i) (s : Since n m next low found i) where
+  module _ (n m : ℕ) (next : List ℕ) (low : ℕ) (found : Option ℕ) (i : ℕ) (h : 0 < i) (s : Since n m next low found i) where
     abbrev j : ℕ
     j = i - 1
 
@@ -146,12 +145,12 @@ module _ (ws : List ℕ) (b : Bool) where
         (λ z. get_or-set_other next j q low' 0 (λ u. omega arith) ∙ s.known q (omega arith) y)
         (eq-or-lt_of_le x)
 
-    first_next : first test (n - j) j ≡ cond (test j) (At j) (first test (n - i) i)
+    first_next : first test (n - j) j ≡ cond (test j) (Some j) (first test (n - i) i)
     unfolding first
-    first_next = ap (λ (x : ℕ). first test x j) count ∙ ap (λ (x : ℕ). cond (test j) (At j) (first test (n - i) x)) after
+    first_next = ap (λ (x : ℕ). first test x j) count ∙ ap (λ (x : ℕ). cond (test j) (Some j) (first test (n - i) x)) after
 
     pub since-next : Nested ws n → length ws ≡ 4 * n → (low' : ℕ) → low' ≡ cond (hit b (kind_at ws j)) j low → (here : Bool) → here ≡ holds_at ws (λ p. get_or (set next j low') p 0) j
-        → (found' : Found) → found' ≡ cond here (At j) found → Since n m (set next j low') low' found' j
+        → (found' : Option ℕ) → found' ≡ cond here (Some j) found → Since n m (set next j low') low' found' j
     since-next good long low' q here r found' f =
         let e = low-next low' q in
         let k = known_next low' e in
@@ -162,10 +161,10 @@ module _ (ws : List ℕ) (b : Bool) where
           room = s.room;
           lowest = e;
           known = k;
-          same = f ∙ ap (λ (x : Bool). cond x (At j) found) t ∙ sym (first_next ∙ ap (cond (test j) (At j)) (sym s.same));
+          same = f ∙ ap (λ (x : Bool). cond x (Some j) found) t ∙ sym (first_next ∙ ap (cond (test j) (Some j)) (sym s.same));
         }
 
-  pub since_end : (n m : ℕ) (next : List ℕ) (low : ℕ) (found : Found) (i : ℕ) → Since n m next low found i → i ≤ 0 → found ≡ first test n 0
+  pub since_end : (n m : ℕ) (next : List ℕ) (low : ℕ) (found : Option ℕ) (i : ℕ) → Since n m next low found i → i ≤ 0 → found ≡ first test n 0
   since_end n m next low found i s h =
       let z : i ≡ 0 = omega arith in
       let m : n - i ≡ n = omega arith in

@@ -1,46 +1,46 @@
 -- Refusals 6, 7 and 8 together, in the order in which they are tested. Assumes nothing.
-use Rattle.std.specs.Prelude.{ℕ, Bool, ◌&&◌, ◌||◌, List, eqb}
+use Rattle.std.specs.Prelude.{ℕ, Bool, ◌&&◌, ◌||◌, List, eqb, Result, Ok, Err, Option, Some, None}
 use Rattle.grammar.specs.Kinds.{Declarator, Function, Class}
 use Rattle.names.specs.Names.{is_arguments}
 use Rattle.forest.specs.Forest.{Rows}
-use Rattle.names.specs.declared.Found.{Found}
-use Rattle.names.specs.declared.Found.TheVariants.{At, Nothing}
 use Rattle.steps.specs.Mode.{Switches}
 use Rattle.steps.specs.Naming.{Names}
 use Rattle.steps.specs.Refusals.{Rule, alone, six, seven, eight}
 use Rattle.refusals.specs.declared.Refused.{Refused}
-use Rattle.refusals.specs.declared.Refused.TheVariants.{Not, SuperNotAllowed, FieldHolds, NamedArguments}
+use Rattle.refusals.specs.declared.Refused.TheVariants.{SuperNotAllowed, FieldHolds, NamedArguments}
 
--- The request's number for each answer (docs/FORMAT.md, "What the conversion turns away"),
+-- The request's number of each refusal (docs/FORMAT.md, "What the conversion turns away"),
 abbrev pub number_of : Refused → ℕ
-number_of Not = 0
 number_of (SuperNotAllowed row) = 6
 number_of (FieldHolds row) = 7
 number_of (NamedArguments row) = 8
 
 -- and its place
 abbrev pub place_for : Refused → ℕ
-place_for Not = 0
 place_for (SuperNotAllowed row) = row
 place_for (FieldHolds row) = row
 place_for (NamedArguments row) = row
 
+-- What 6, 7 and 8 answer: nothing, or the refusal that is given
+abbrev pub Answer : Type 0
+Answer = Result (Unit {0}) Refused
+
 -- 6, 7 and 8, each with what is answered where it is not given
-abbrev pub unless_super : Found → Refused → Refused
-unless_super (At row) other = SuperNotAllowed row
-unless_super Nothing other = other
+abbrev pub unless_super : Option ℕ → Answer → Answer
+unless_super (Some row) other = Err (SuperNotAllowed row)
+unless_super None other = other
 
-abbrev pub unless_field : Found → Refused → Refused
-unless_field (At row) other = FieldHolds row
-unless_field Nothing other = other
+abbrev pub unless_field : Option ℕ → Answer → Answer
+unless_field (Some row) other = Err (FieldHolds row)
+unless_field None other = other
 
-abbrev pub unless_named : Found → Refused → Refused
-unless_named (At row) other = NamedArguments row
-unless_named Nothing other = other
+abbrev pub unless_named : Option ℕ → Answer → Answer
+unless_named (Some row) other = Err (NamedArguments row)
+unless_named None other = other
 
 -- "Tested in the order .. 6, 7, 8, .. each over the whole table before the next."
-unfoldable pub turned_away : Names → Switches → Rows → Refused
-turned_away N w t = unless_super (six w t) (unless_field (seven w t) (unless_named (eight N w t) Not))
+unfoldable pub turned_away : Names → Switches → Rows → Answer
+turned_away N w t = unless_super (six w t) (unless_field (seven w t) (unless_named (eight N w t) (Ok tt)))
 
 -- "a Declarator, Function or Class"
 abbrev pub binds : ℕ → Bool

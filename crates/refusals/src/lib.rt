@@ -15,37 +15,33 @@ ghost use Rattle.refusals.specs.Given.{GivenRows};
 ghost use Rattle.refusals.specs.Refused.{number_of, place_for, turned_away};
 
 use firsts::{first_arguments, first_field, first_super};
-use names::Found;
 use steps::ArrowFunctionConverter;
 
-// What the refusals 6, 7 and 8 say of a table.
+// A refusal of a table that is sound.
 #[derive(Clone, Copy)]
 pub enum Refused {
-    Not,
     SuperNotAllowed { row: usize },
     FieldHolds { row: usize },
     NamedArguments { row: usize },
 }
 
 impl Refused {
-    // The request's number of the answer.
+    // The request's number of the refusal.
     pub fn number(self) -> u32
         ensures { result ≡ number_of self }
     {
         match self {
-            Refused::Not => 0,
-            Refused::SuperNotAllowed { row: _ } => 6,
-            Refused::FieldHolds { row: _ } => 7,
-            Refused::NamedArguments { row: _ } => 8,
+            Refused::SuperNotAllowed { .. } => 6,
+            Refused::FieldHolds { .. } => 7,
+            Refused::NamedArguments { .. } => 8,
         }
     }
 
-    // Its place: 0, or a row.
+    // Its place: a row.
     pub fn place(self) -> usize
         ensures { result ≡ place_for self }
     {
         match self {
-            Refused::Not => 0,
             Refused::SuperNotAllowed { row } => row,
             Refused::FieldHolds { row } => row,
             Refused::NamedArguments { row } => row,
@@ -55,29 +51,31 @@ impl Refused {
 
 // Refusals 6, 7 and 8, each over the whole table before the next. Called where `rows::check`
 // answers Sound: `given` of proofs/Giving.antt makes what is required of that.
-pub fn refusal(rows: &[u8], names: &[u8], text: &[u8], converter: ArrowFunctionConverter) -> Refused
+pub fn refusal(
+    rows: &[u8],
+    names: &[u8],
+    text: &[u8],
+    converter: ArrowFunctionConverter,
+) -> Result<(), Refused>
     requires { GivenRows rows.now (rows_in rows.now) × GivenNames names.now text.now }
     ensures { (w : Switches) → converter.mode ≡ mode_of w → result ≡ turned_away (names_of names.now text.now) w (table rows.now) }
 {
     if converter.is_disabled() {
-        return Refused::Not;
+        return Ok(());
     }
     let n = rows.len() / 16;
     let only = converter.is_async_only();
-    let six = first_super(rows, n);
-    if let Found::At(row) = six {
-        return Refused::SuperNotAllowed { row };
+    if let Some(row) = first_super(rows, n) {
+        return Err(Refused::SuperNotAllowed { row });
     }
-    let seven = first_field(rows, n, only);
-    if let Found::At(row) = seven {
-        return Refused::FieldHolds { row };
+    if let Some(row) = first_field(rows, n, only) {
+        return Err(Refused::FieldHolds { row });
     }
     if !only {
-        return Refused::Not;
+        return Ok(());
     }
-    let eight = first_arguments(rows, names, text, n);
-    if let Found::At(row) = eight {
-        return Refused::NamedArguments { row };
+    if let Some(row) = first_arguments(rows, names, text, n) {
+        return Err(Refused::NamedArguments { row });
     }
-    Refused::Not
+    Ok(())
 }

@@ -4,378 +4,145 @@
 
 #![tactic(auto)]
 
-ghost use Rattle.std.specs.Prelude.{◌≡◌, ◌+◌, ◌≤◌, ◌<◌, length, IfOk};
+ghost use Rattle.std.specs.Prelude.{◌≤◌, length, IfOk};
 
-use reading::read_full;
 use std::io;
-use vectors::runs::{Built, Names};
-use vectors::tally::{Tally, Turn, bad_data, print_case, print_tally, whole};
-use vectors::{input, lent, runs};
+use vectors::cases::{Cases, Input};
+use vectors::compared::{Compared, Numbers, Part, lend, same_bytes};
+use vectors::input::Fault;
+use vectors::runs::{Built, Kind, NameRoom, Names, Room};
+use vectors::words::Words;
 
-// The entries' numbers in a stored call.
-const MAKER: u32 = 1;
-
-const LOOKUP: u32 = 2;
-
-// An answer's four numbers: the maker's refusal, place, pairs and bytes, or the lookup's refusal, start and bytes, and a 0.
-#[derive(Clone, Copy)]
-struct Answer {
-    first: u32,
-    second: u32,
-    third: u32,
-    fourth: u32,
+// The entry that is called.
+#[derive(Clone, Copy, PartialEq, Eq)]
+enum Entry {
+    Maker,
+    Lookup,
 }
 
-impl Answer {
-    fn same(self, other: Answer) -> bool {
-        (self.first == other.first)
-            & (self.second == other.second)
-            & (self.third == other.third)
-            & (self.fourth == other.fourth)
-    }
+impl TryFrom<u32> for Entry {
+    type Error = Fault;
 
-    fn print(self, rt: &impl Print) -> io::Result<()> {
-        print!(rt;
-            "{} {} {} {}",
-            self.first, self.second, self.third, self.fourth
-        )
+    fn try_from(word: u32) -> Result<Entry, Fault> {
+        match word {
+            1 => Ok(Entry::Maker),
+            2 => Ok(Entry::Lookup),
+            _ => Err(Fault::Case),
+        }
     }
 }
 
-// The stored answer, four words from `at` on.
-fn answer_at(words: &[u32], at: usize) -> Answer
-    requires { at ≤ 65536 }
-{
-    Answer {
-        first: input::word(words, at),
-        second: input::word(words, at + 1),
-        third: input::word(words, at + 2),
-        fourth: input::word(words, at + 3),
-    }
-}
-
-// What a call asks for: its own number, the entry, and for the maker the bytes lent for pairs and for text, for the lookup attr
-// and number.
+// What a call asks for: for the maker how many bytes are lent for pairs and for text, for the lookup attr and number.
 #[derive(Clone, Copy)]
 struct Asked {
-    number: usize,
-    entry: u32,
+    entry: Entry,
     first: u32,
     second: u32,
 }
 
-fn asked_at(words: &[u32], from: usize) -> Asked
-    requires { from ≤ 65536 }
-{
-    Asked {
-        number: input::word(words, from) as usize,
-        entry: input::word(words, from + 1),
-        first: input::word(words, from + 2),
-        second: input::word(words, from + 3),
+impl Asked {
+    fn read(words: &mut Words<'_>) -> Result<Asked, Fault>
+        ensures { IfOk result (λ _. length words.new.rest.now ≤ length words.old.rest.now) }
+    {
+        Ok(Asked {
+            entry: Entry::try_from(words.next()?)?,
+            first: words.next()?,
+            second: words.next()?,
+        })
     }
 }
 
-// What the maker answers for the bytes that were built, with all of `out_pairs` and `out_text` lent.
-fn make(
-    b: Built,
-    records: &[u8],
-    pairs: &[u8],
-    text: &[u8],
-    out_pairs: &mut [u8],
-    out_text: &mut [u8],
-) -> Answer {
-    let r = runs::within(b.first, records);
-    let p = runs::within(b.pairs, pairs);
-    let x = runs::within(b.text, text);
-    let named = thawcopper::thawcopper_make_names(
-        &records[..r],
-        &pairs[..p],
-        &text[..x],
-        out_pairs,
-        out_text,
-    );
-    Answer {
-        first: named.refusal,
-        second: named.place,
-        third: named.pairs,
-        fourth: named.bytes,
-    }
-}
-
-// What the lookup answers for the bytes that were built.
-fn look_up(
-    a: Asked,
-    b: Built,
-    m: Names,
-    pairs: &[u8],
-    text: &[u8],
-    made_pairs: &[u8],
-    made_text: &[u8],
-) -> Answer {
-    let p = runs::within(b.pairs, pairs);
-    let x = runs::within(b.text, text);
-    let q = runs::within(m.pairs, made_pairs);
-    let y = runs::within(m.text, made_text);
+// What the lookup answers: refusal, start and bytes, and a 0. It lends nothing.
+fn look_up(a: Asked, b: Built<'_>, want: Numbers<4>, made: Names<'_>) -> Compared<4, 2> {
     let part = thawcopper::thawcopper_spelling(
         a.first,
         a.second,
-        &pairs[..p],
-        &text[..x],
-        &made_pairs[..q],
-        &made_text[..y],
+        b.names.pairs,
+        b.names.text,
+        made.pairs,
+        made.text,
     );
-    Answer {
-        first: part.refusal,
-        second: part.start,
-        third: part.bytes,
-        fourth: 0,
-    }
-}
-
-// 1 where the numbers or the bytes differ, which prints the numbers, else 0.
-fn compared(
-    rt: &impl Print,
-    n: usize,
-    got: Answer,
-    want: Answer,
-    pairs: bool,
-    text: bool,
-) -> io::Result<usize>
-    ensures { IfOk result (λ differ. differ ≤ 1) }
-{
-    if got.same(want) & pairs & text {
-        return Ok(0);
-    }
-    print_case(rt, n)?;
-    print!(rt; "got ")?;
-    got.print(rt)?;
-    print!(rt; ", want ")?;
-    want.print(rt)?;
-    if !pairs {
-        print!(rt; ", and the pairs differ")?;
-    }
-    if !text {
-        print!(rt; ", and the text differs")?;
-    }
-    print!(rt; "\n")?;
-    Ok(1)
-}
-
-// Call n of the maker, with all of `out_pairs` and `out_text` lent: 1 where anything differs, else 0.
-fn made(
-    rt: &impl Print,
-    n: usize,
-    b: Built,
-    want: Answer,
-    m: Names,
-    records: &[u8],
-    pairs: &[u8],
-    text: &[u8],
-    made_pairs: &[u8],
-    made_text: &[u8],
-    out_pairs: &mut [u8],
-    out_text: &mut [u8],
-) -> io::Result<usize>
-    ensures { IfOk result (λ differ. differ ≤ 1) }
-{
-    lent::fill(out_pairs);
-    lent::fill(out_text);
-    let got = make(b, records, pairs, text, out_pairs, out_text);
-    let same_pairs = lent::same_bytes(out_pairs, made_pairs, m.pairs);
-    let same_text = lent::same_bytes(out_text, made_text, m.text);
-    compared(rt, n, got, want, same_pairs, same_text)
-}
-
-// Whether the made names are as many pairs and bytes as the answer says.
-fn is_counted(want: Answer, m: Names) -> bool {
-    (m.pairs == want.third as usize * 8) & (m.text == want.fourth as usize)
-}
-
-// Whether a call of the maker can be run: its made names are counted, and as many bytes can be lent as it says.
-fn can_make(a: Asked, want: Answer, m: Names, pairs: usize, text: usize) -> bool {
-    let counted = is_counted(want, m);
-    counted & (a.entry == MAKER) & (a.first as usize <= pairs) & (a.second as usize <= text)
-}
-
-// Call n of the maker, which ends before word `after`.
-fn run_maker(
-    rt: &impl Print,
-    count: usize,
-    after: usize,
-    n: usize,
-    a: Asked,
-    b: Built,
-    want: Answer,
-    m: Names,
-    records: &[u8],
-    pairs: &[u8],
-    text: &[u8],
-    made_pairs: &[u8],
-    made_text: &[u8],
-    out_pairs: &mut [u8],
-    out_text: &mut [u8],
-) -> io::Result<Turn>
-    requires { after ≤ count }
-    ensures { IfOk result (λ turn. (turn.differ ≤ 1) × (after ≤ turn.at) × (turn.at ≤ count)) }
-{
-    let can = can_make(a, want, m, out_pairs.len(), out_text.len());
-    if !can {
-        return bad_data(rt, n, count);
-    }
-    let p = runs::within(a.first as usize, out_pairs);
-    let x = runs::within(a.second as usize, out_text);
-    let differ = made(
-        rt,
-        n,
-        b,
+    Compared {
+        got: Numbers::from([part.refusal, part.start, part.bytes, 0]),
         want,
-        m,
-        records,
-        pairs,
-        text,
-        made_pairs,
-        made_text,
-        &mut out_pairs[..p],
-        &mut out_text[..x],
-    )?;
-    Ok(Turn { differ, at: after })
+        lent: [(Part::Pairs, true), (Part::Text, true)],
+    }
 }
 
-// Call n, whose words start at `from`, built, as are its made names.
-fn run_built(
-    rt: &impl Print,
-    count: usize,
-    from: usize,
-    n: usize,
-    a: Asked,
-    b: Built,
-    want: Answer,
-    m: Names,
-    records: &[u8],
-    pairs: &[u8],
-    text: &[u8],
-    made_pairs: &[u8],
-    made_text: &[u8],
-    out_pairs: &mut [u8],
-    out_text: &mut [u8],
-) -> io::Result<Turn>
-    requires { (from < m.at) × (m.at ≤ count) }
-    ensures { IfOk result (λ turn. (turn.differ ≤ 1) × (from < turn.at) × (turn.at ≤ count)) }
-{
-    if !b.good | !m.good | (a.number != n) {
-        return bad_data(rt, n, count);
-    }
-    if a.entry == LOOKUP {
-        let got = look_up(a, b, m, pairs, text, made_pairs, made_text);
-        let differ = compared(rt, n, got, want, true, true)?;
-        return Ok(Turn { differ, at: m.at });
-    }
-    run_maker(
-        rt, count, m.at, n, a, b, want, m, records, pairs, text, made_pairs, made_text, out_pairs,
-        out_text,
-    )
+// The bytes that can be lent.
+#[derive(Drop)]
+struct Lent {
+    pairs: [u8; 524288],
+    text: [u8; 524288],
 }
 
-// Call n, whose words start at `from`, built; builds its made names.
-fn run_names(
-    rt: &impl Print,
-    words: &[u32],
-    count: usize,
-    from: usize,
-    n: usize,
-    b: Built,
-    records: &[u8],
-    pairs: &[u8],
-    text: &[u8],
-    made_pairs: &mut [u8],
-    made_text: &mut [u8],
-    out_pairs: &mut [u8],
-    out_text: &mut [u8],
-) -> io::Result<Turn>
-    requires { (from < b.at) × (b.at ≤ count) × (count ≤ 65536) }
-    ensures { IfOk result (λ turn. (turn.differ ≤ 1) × (from < turn.at) × (turn.at ≤ count)) }
-{
-    let a = asked_at(words, from);
-    let want = answer_at(words, b.at);
-    let m = runs::build_names(words, b.at + 4, made_pairs, made_text);
-    if count < m.at {
-        return bad_data(rt, n, count);
+impl Lent {
+    // What the maker answers: refusal, place, pairs and bytes.
+    fn make(
+        &mut self,
+        a: Asked,
+        b: Built<'_>,
+        want: Numbers<4>,
+        made: Names<'_>,
+    ) -> Result<Compared<4, 2>, Fault> {
+        let counted = Kind::Pair.are_items(want.0[2], made.pairs)
+            && Kind::Byte.are_items(want.0[3], made.text);
+        if !counted {
+            return Err(Fault::Case);
+        }
+        let Lent { pairs, text } = self;
+        let pairs = lend(pairs, a.first)?;
+        let text = lend(text, a.second)?;
+        let named = thawcopper::thawcopper_make_names(
+            b.first,
+            b.names.pairs,
+            b.names.text,
+            pairs,
+            text,
+        );
+        Ok(Compared {
+            got: Numbers::from([named.refusal, named.place, named.pairs, named.bytes]),
+            want,
+            lent: [
+                (Part::Pairs, same_bytes(pairs, made.pairs)),
+                (Part::Text, same_bytes(text, made.text)),
+            ],
+        })
     }
-    run_built(
-        rt, count, from, n, a, b, want, m, records, pairs, text, made_pairs, made_text, out_pairs,
-        out_text,
-    )
 }
 
-// Call n, whose words start at `from`.
-fn run_case(
-    rt: &impl Print,
-    words: &[u32],
-    count: usize,
-    from: usize,
-    n: usize,
-    records: &mut [u8],
-    pairs: &mut [u8],
-    text: &mut [u8],
-    made_pairs: &mut [u8],
-    made_text: &mut [u8],
-    out_pairs: &mut [u8],
-    out_text: &mut [u8],
-) -> io::Result<Turn>
-    requires { (from < count) × (count ≤ 65536) }
-    ensures { IfOk result (λ turn. (turn.differ ≤ 1) × (from < turn.at) × (turn.at ≤ count)) }
-{
-    let b = runs::build(words, from + 4, 3, records, pairs, text);
-    if count < b.at {
-        return bad_data(rt, n, count);
-    }
-    run_names(
-        rt, words, count, from, n, b, records, pairs, text, made_pairs, made_text, out_pairs,
-        out_text,
-    )
+// Room for a case one record above the limit, for the names that are stored as made, and for the bytes that can be lent.
+#[derive(Drop)]
+struct Calls {
+    room: Room<786448>,
+    made: NameRoom,
+    lent: Lent,
 }
 
-fn replay(rt: &impl Print, words: &[u32], count: usize) -> io::Result<Tally>
-    requires { count ≤ 65536 }
-    ensures { IfOk result (λ tally. (tally.cases ≤ 65536) × (tally.differ ≤ 65536)) }
-{
-    let mut records = runs::record_room();
-    let mut pairs = runs::pair_room();
-    let mut text = runs::text_room();
-    let mut made_pairs = runs::pair_room();
-    let mut made_text = runs::text_room();
-    let mut out_pairs = input::byte_room();
-    let mut out_text = input::byte_room();
-    let mut at: usize = 0;
-    let mut cases: usize = 0;
-    let mut differ: usize = 0;
-    while at < count {
-        let t = run_case(
-            rt,
-            words,
-            count,
-            at,
-            cases + 1,
-            &mut records,
-            &mut pairs,
-            &mut text,
-            &mut made_pairs,
-            &mut made_text,
-            &mut out_pairs,
-            &mut out_text,
-        )?;
-        cases += 1;
-        differ += t.differ;
-        at = t.at;
+impl Cases<4, 2> for Calls {
+    // A call: what it asks for, the table, the answer and the made names.
+    fn run(&mut self, words: &mut Words<'_>) -> Result<Compared<4, 2>, Fault> {
+        let Calls { room, made, lent } = self;
+        let asked = Asked::read(words)?;
+        let built = room.build(words, Kind::Record)?;
+        let want = words.answer()?;
+        let made = made.build(words)?;
+        match asked.entry {
+            Entry::Maker => lent.make(asked, built, want, made),
+            Entry::Lookup => Ok(look_up(asked, built, want, made)),
+        }
     }
-    Ok(Tally { cases, differ })
 }
 
 fn main(rt: HostRuntime) -> io::Result<()> {
-    let mut data = input::byte_room();
-    let mut words = input::word_room();
-    let n = read_full(&mut rt.stdin(), &mut data)?;
-    let r = input::numbers(&data[..n], &mut words);
-    let t = replay(&rt, &words, r.count)?;
-    print_tally(&rt, whole(&rt, t, r.good & (n < 524288))?, b"calls")
+    let mut input: Input<524288, 65536> = Input::new();
+    let mut calls = Calls {
+        room: Room::new(),
+        made: NameRoom::new(),
+        lent: Lent {
+            pairs: [0; 524288],
+            text: [0; 524288],
+        },
+    };
+    input.replay(&rt, &mut rt.stdin(), &mut calls, "calls")
 }

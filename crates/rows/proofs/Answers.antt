@@ -1,4 +1,5 @@
 -- Of the answer: its place is a name or a row of the table. Of a well-formed row: its name is one of the table's. Assumes nothing.
+use Rattle.std.specs.Prelude.{Option, Some, None, Err}
 use mathlib.Core.Path.{◌≡◌, refl, sym, subst, ◌∙◌}
 use mathlib.Core.Bool.{Bool, true, false, cond, ◌&&◌, ◌||◌, not}
 use mathlib.Core.List.{List}
@@ -11,50 +12,48 @@ use lib.ListN.{length}
 use Rattle.names.specs.Words.{words, rows_in, names_in}
 use Rattle.grammar.specs.Kinds.{Declarator, Ident, Member, Function, Class, Other, Opaque}
 use Rattle.grammar.specs.Grammar.{made_row, names_one, name_ok}
-use Rattle.forest.specs.Faults.{first_fault}
+use Rattle.forest.specs.Faults.{told, or_else, first_fault}
+use Rattle.forest.specs.declared.Fault.{Fault}
 use Rattle.forest.specs.Told.{fault_at, first_deep, lowest_from, lowest_fault}
 use Rattle.names.specs.Names.{bad_name, first_bad_name}
 use Rattle.rows.specs.Sound.{GoodSizes}
-use Rattle.rows.specs.Refusals.{place_for, limited, sizes_ok, first_made, unless_named, unless_fault, unless_deep, unless_made, checked}
-use Rattle.names.specs.declared.Found.{Found}
-use Rattle.names.specs.declared.Found.TheVariants.{At, Nothing}
-use Rattle.forest.specs.declared.RowFault.{RowFault}
-use Rattle.forest.specs.declared.RowFault.TheVariants.{Fine, Bad}
-use Rattle.rows.specs.declared.Checked.{Checked}
-use Rattle.rows.specs.declared.Checked.TheVariants.{Sound, Malformed}
+use Rattle.rows.specs.Refusals.{place_for, limited, sizes_ok, first_made, unless_named, unless_fault, unless_deep, unless_made, checked, Checked, Sound}
 use Rattle.names.proofs.Seeking.{first_below}
 use Rattle.forest.proofs.Descent.{first-lowest}
 use Rattle.rows.proofs.Ordering.{SizesOk, good-sizes}
+use Rattle.rows.specs.declared.Unsound.TheVariants.{Malformed}
+use Rattle.forest.specs.declared.BadRow.{BadRow as RowFault}
 
-below_cases : (ws : List ℕ) (n names f i c r F : ℕ) (b : Bool) → (lowest_from ws n names f (i + 1) ≡ Bad c r → r < i + 1 + f) → cond b (lowest_from ws n names f (i + 1)) (Bad F i) ≡ Bad c r → r < i + suc f
-below_cases ws n names f i c r F true ih h = let l : r < i + 1 + f = ih h in omega arith
-below_cases ws n names f i c r F false ih h = let q : i ≡ r = cc in omega arith
+below_cases : (F : Option Fault) (i k : ℕ) (later : Option RowFault) (bad : RowFault) → (later ≡ Some bad → bad.row < k) → i < k → or_else (told F i) later ≡ Some bad → bad.row < k
+below_cases (Some fault) i k later bad ih l h = let q : i ≡ bad.row = cc in omega arith
+below_cases None i k later bad ih l h = ih h
 
-pub lowest_below : (ws : List ℕ) (n names f i c r : ℕ) → lowest_from ws n names f i ≡ Bad c r → r < i + f
+pub lowest_below : (ws : List ℕ) (n names f i : ℕ) (bad : RowFault) → lowest_from ws n names f i ≡ Some bad → bad.row < i + f
 unfolding lowest_from
-lowest_below ws n names zero i c r h = absurd (let z : ◌≡◌ {A = ℕ} 0 1 = cc in omega arith)
-lowest_below ws n names (suc f) i c r h = below_cases ws n names f i c r (fault_at ws n names i) (eqb (fault_at ws n names i) 0) (lowest_below ws n names f (i + 1) c r) h
+lowest_below ws n names zero i bad h = absurd (let z : ◌≡◌ {A = ℕ} 0 1 = cc in omega arith)
+lowest_below ws n names (suc f) i bad h =
+    below_cases (fault_at ws n names i) i (i + suc f) (lowest_from ws n names f (i + 1)) bad (λ q. let l = lowest_below ws n names f (i + 1) bad q in omega arith) (omega arith) h
 
 -- a row that is told, of n rows
-fault_below : (ws : List ℕ) (n names c r : ℕ) → 0 < n → first_fault ws n names ≡ Bad c r → r < n
+fault_below : (ws : List ℕ) (n names : ℕ) (bad : RowFault) → 0 < n → first_fault ws n names ≡ Some bad → bad.row < n
 unfolding lowest_fault
-fault_below ws n names c r some h = let l : r < 0 + n = lowest_below ws n names n 0 c r (sym (first-lowest ws n names some) ∙ h) in omega arith
+fault_below ws n names bad some h = let l : bad.row < 0 + n = lowest_below ws n names n 0 bad (sym (first-lowest ws n names some) ∙ h) in omega arith
 
-made-place : (m : Found) (n : ℕ) → ((r : ℕ) → m ≡ At r → r < n) → place_for (unless_made m Sound) ≤ n
-made-place (At r) n h = let l = h r refl in omega arith
-made-place Nothing n h = omega arith
+made-place : (m : Option ℕ) (n : ℕ) → ((r : ℕ) → m ≡ Some r → r < n) → place_for (unless_made m Sound) ≤ n
+made-place (Some r) n h = let l = h r refl in omega arith
+made-place None n h = omega arith
 
-deep-place : (d : Found) (c : Checked) (n : ℕ) → ((r : ℕ) → d ≡ At r → r < n) → place_for c ≤ n → place_for (unless_deep d c) ≤ n
-deep-place (At r) c n h k = let l = h r refl in omega arith
-deep-place Nothing c n h k = k
+deep-place : (d : Option ℕ) (c : Checked) (n : ℕ) → ((r : ℕ) → d ≡ Some r → r < n) → place_for c ≤ n → place_for (unless_deep d c) ≤ n
+deep-place (Some r) c n h k = let l = h r refl in omega arith
+deep-place None c n h k = k
 
-fault-place : (f : RowFault) (c : Checked) (n : ℕ) → ((b r : ℕ) → f ≡ Bad b r → r < n) → place_for c ≤ n → place_for (unless_fault f c) ≤ n
-fault-place (Bad b r) c n h k = let l = h b r refl in omega arith
-fault-place Fine c n h k = k
+fault-place : (f : Option RowFault) (c : Checked) (n : ℕ) → ((bad : RowFault) → f ≡ Some bad → bad.row < n) → place_for c ≤ n → place_for (unless_fault f c) ≤ n
+fault-place (Some bad) c n h k = let l = h bad refl in omega arith
+fault-place None c n h k = k
 
-name-place : (f : Found) (c : Checked) (n : ℕ) → ((r : ℕ) → f ≡ At r → r ≤ n) → place_for c ≤ n → place_for (unless_named f c) ≤ n
-name-place (At r) c n h k = h r refl
-name-place Nothing c n h k = k
+name-place : (f : Option ℕ) (c : Checked) (n : ℕ) → ((r : ℕ) → f ≡ Some r → r ≤ n) → place_for c ≤ n → place_for (unless_named f c) ≤ n
+name-place (Some r) c n h k = h r refl
+name-place None c n h k = k
 
 -- the place of an answer is at most 16,384
 pub place-small : (row_limit depth_limit : ℕ) (rows names text : List ℕ) → place_for (checked row_limit depth_limit rows names text) ≤ 16384
@@ -68,12 +67,12 @@ place-small row_limit depth_limit rows names text = go (sizes_ok (limited row_li
         (unless_deep (first_deep (words rows) (limited depth_limit) (rows_in rows))
         (unless_made (first_made (words rows) (rows_in rows)) Sound)))
 
-    go : (b : Bool) → SizesOk row_limit depth_limit rows names text b → place_for (cond b rest Malformed) ≤ 16384
+    go : (b : Bool) → SizesOk row_limit depth_limit rows names text b → place_for (cond b rest (Err Malformed)) ≤ 16384
     go false q = omega arith
     go true q =
         let g : GoodSizes row_limit rows names text = good-sizes row_limit depth_limit rows names text q in
         name-place (first_bad_name names text) _ 16384 (λ r h. let l = first_below (bad_name names text) (names_in names) 1 r h in omega arith)
-        (fault-place (first_fault (words rows) (rows_in rows) (names_in names)) _ 16384 (λ b r h. let l = fault_below (words rows) (rows_in rows) (names_in names) b r g.some h in omega arith)
+        (fault-place (first_fault (words rows) (rows_in rows) (names_in names)) _ 16384 (λ bad h. let l = fault_below (words rows) (rows_in rows) (names_in names) bad g.some h in omega arith)
         (deep-place (first_deep (words rows) (limited depth_limit) (rows_in rows)) _ 16384 (λ r h. let l = first_below _ (rows_in rows) 0 r h in omega arith)
         (made-place (first_made (words rows) (rows_in rows)) 16384 (λ r h. let l = first_below _ (rows_in rows) 0 r h in omega arith))))
 

@@ -5,8 +5,7 @@ use Prim.Native.Nat.{ℕ, ◌+◌, ◌≤◌}
 use native.Mathlib.Omega.{arith}
 use Rattle.forest.specs.Forest.{Rows, Rows.none, Rows.node, table, DepthWithin}
 use Rattle.rows.specs.Sound.{SoundTable}
-use Rattle.rows.specs.Refusals.{checked, limited}
-use Rattle.rows.specs.declared.Checked.TheVariants.{Sound}
+use Rattle.rows.specs.Refusals.{checked, limited, Sound}
 use Rattle.rows.proofs.Soundness.{sound, accepts}
 
 within-up : (most more d : ℕ) (f : Rows) → most ≤ more → DepthWithin most d f → DepthWithin more d f

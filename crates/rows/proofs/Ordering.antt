@@ -1,4 +1,5 @@
 -- The refusals in their order, by what each of the searches answers; and what the sizes give. Assumes nothing.
+use Rattle.std.specs.Prelude.{Option, Err, None}
 use mathlib.Core.Path.{◌≡◌, ap, sym, ◌∙◌}
 use mathlib.Core.Bool.{Bool, true, false, ◌&&◌}
 use mathlib.Core.List.{List}
@@ -12,30 +13,26 @@ use Rattle.names.specs.Names.{first_bad_name}
 use Rattle.forest.specs.Faults.{first_fault}
 use Rattle.forest.specs.Told.{first_deep}
 use Rattle.rows.specs.Sound.{GoodSizes}
-use Rattle.rows.specs.Refusals.{limited, sizes_ok, first_made, unless_named, unless_fault, unless_deep, unless_made, checked}
-use Rattle.names.specs.declared.Found.{Found}
-use Rattle.forest.specs.declared.RowFault.{RowFault}
-use Rattle.forest.specs.declared.RowFault.TheVariants.{Fine}
-use Rattle.rows.specs.declared.Fault.{Fault}
-use Rattle.rows.specs.declared.Checked.{Checked}
-use Rattle.rows.specs.declared.Checked.TheVariants.{Sound, Malformed, BadRow}
+use Rattle.rows.specs.Refusals.{limited, sizes_ok, first_made, unless_named, unless_fault, unless_deep, unless_made, checked, Sound}
 use Rattle.names.proofs.Bools.{and_left, and_right, and_both}
 use Rattle.names.proofs.GoodNames.{name-sizes}
 use Rattle.forest.proofs.Accepting.{none-faulty}
 use Rattle.forest.proofs.Descent.{first-lowest}
+use Rattle.rows.specs.declared.Unsound.TheVariants.{Malformed}
+use Rattle.forest.specs.declared.BadRow.{BadRow as RowFault}
 
 module _ (row_limit depth_limit : ℕ) (rows names text : List ℕ) where
   abbrev pub SizesOk : Bool → Type 0
   SizesOk b = sizes_ok (limited row_limit) (length rows) (length names) (length text) ≡ b
 
-  pub is-checked : (bad made deep : Found) (fault : RowFault) → SizesOk true
+  pub is-checked : (bad made deep : Option ℕ) (fault : Option RowFault) → SizesOk true
       → first_bad_name names text ≡ bad → first_fault (words rows) (rows_in rows) (names_in names) ≡ fault
       → first_deep (words rows) (limited depth_limit) (rows_in rows) ≡ deep → first_made (words rows) (rows_in rows) ≡ made
       → unless_named bad (unless_fault fault (unless_deep deep (unless_made made Sound))) ≡ checked row_limit depth_limit rows names text
   unfolding checked
   is-checked bad made deep fault s qn qf qd qm = rw (s, qn, qf, qd, qm)
 
-  pub is_malformed : SizesOk false → Malformed ≡ checked row_limit depth_limit rows names text
+  pub is_malformed : SizesOk false → Err Malformed ≡ checked row_limit depth_limit rows names text
   unfolding checked
   is_malformed s = rw s
 
@@ -69,14 +66,10 @@ module _ (row_limit depth_limit : ℕ) (rows names text : List ℕ) where
       (and_both (and_both (eq-eqb (length rows % 16) 0 (omega arith)) (lt-ltb 0 (length rows) (omega arith))) (le-leb (length rows) (16 * limited row_limit) (omega arith)))
       (and_both (and_both (eq-eqb (length names % 8) 0 (omega arith)) (le-leb (length names) 32768 (omega arith))) (le-leb (length text) 65535 g.short))
 
--- a bad row, by the fault that the code has
-pub bad-by : {fault told : Fault} {row : ℕ} {c : Checked} → fault ≡ told → BadRow told row ≡ c → BadRow fault row ≡ c
-bad-by {fault} {told} {row} q h = ap (λ (x : Fault). BadRow x row) q ∙ h
-
 -- the depth's limit as the code has it
-pub deep-at : (ws : List ℕ) (limit n : ℕ) (r : Found) {most : ℕ} → most ≡ limited limit → r ≡ first_deep ws most n → r ≡ first_deep ws (limited limit) n
+pub deep-at : (ws : List ℕ) (limit n : ℕ) (r : Option ℕ) {most : ℕ} → most ≡ limited limit → r ≡ first_deep ws most n → r ≡ first_deep ws (limited limit) n
 deep-at ws limit n r {most} q h = h ∙ ap (λ (x : ℕ). first_deep ws x n) q
 
 -- where no row has a fault, each ends within the table
-pub ends-within : (ws : List ℕ) (n names : ℕ) → 0 < n → first_fault ws n names ≡ Fine → (i : ℕ) → i < n → end_at ws i ≤ n
+pub ends-within : (ws : List ℕ) (n names : ℕ) → 0 < n → first_fault ws n names ≡ None → (i : ℕ) → i < n → end_at ws i ≤ n
 ends-within ws n names some h i l = (none-faulty ws n names (sym (first-lowest ws n names some) ∙ h) i l).inside

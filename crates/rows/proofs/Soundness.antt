@@ -1,4 +1,5 @@
 -- The checks accept exactly the tables that `SoundTable` describes: `sound` one way, `accepts` the other. Assumes nothing.
+use Rattle.std.specs.Prelude.{Option, Some, None, Err}
 use mathlib.Core.Path.{◌≡◌, refl, ap, sym, subst, ◌∙◌}
 use mathlib.Core.Bool.{Bool, true, false, cond}
 use mathlib.Core.List.{List, [], ◌∷◌}
@@ -14,13 +15,7 @@ use Rattle.forest.specs.Nested.{Nested}
 use Rattle.forest.specs.Faults.{first_fault}
 use Rattle.forest.specs.Told.{depth_at, first_deep, lowest_fault}
 use Rattle.rows.specs.Sound.{GoodSizes, SoundTable}
-use Rattle.rows.specs.Refusals.{limited, sizes_ok, first_made, unless_named, unless_fault, unless_deep, unless_made, checked}
-use Rattle.names.specs.declared.Found.{Found}
-use Rattle.names.specs.declared.Found.TheVariants.{At, Nothing}
-use Rattle.forest.specs.declared.RowFault.{RowFault}
-use Rattle.forest.specs.declared.RowFault.TheVariants.{Fine, Bad}
-use Rattle.rows.specs.declared.Checked.{Checked}
-use Rattle.rows.specs.declared.Checked.TheVariants.{Sound, Malformed}
+use Rattle.rows.specs.Refusals.{limited, sizes_ok, first_made, unless_named, unless_fault, unless_deep, unless_made, checked, Checked, Sound}
 use Rattle.names.proofs.Seeking.{first-none, none_first}
 use Rattle.names.proofs.GoodNames.{good-name, name-good}
 use Rattle.forest.proofs.Nesting.{Fit}
@@ -29,6 +24,8 @@ use Rattle.forest.proofs.Completing.{complete}
 use Rattle.forest.proofs.Descent.{first-lowest}
 use Rattle.forest.proofs.Levels.{depth_within, within_depth, rows_no, no_rows}
 use Rattle.rows.proofs.Ordering.{SizesOk, is-checked, good-sizes, sizes-good}
+use Rattle.rows.specs.declared.Unsound.TheVariants.{Malformed}
+use Rattle.forest.specs.declared.BadRow.{BadRow as RowFault}
 
 pub words_long : (s : List ℕ) (n : ℕ) → length s ≡ 4 * n → length (words s) ≡ n
 unfolding words
@@ -42,33 +39,33 @@ words_long (a ∷ b ∷ c ∷ d ∷ r) (suc n) h = ap suc (words_long r n (omega
 -- what the answer Sound says of each test
 record Passed (row_limit depth_limit : ℕ) (rows names text : List ℕ) : Type 0 where
   sizes : SizesOk row_limit depth_limit rows names text true
-  named : first_bad_name names text ≡ Nothing
-  fine : first_fault (words rows) (rows_in rows) (names_in names) ≡ Fine
-  shallow : first_deep (words rows) (limited depth_limit) (rows_in rows) ≡ Nothing
-  plain : first_made (words rows) (rows_in rows) ≡ Nothing
+  named : first_bad_name names text ≡ None
+  fine : first_fault (words rows) (rows_in rows) (names_in names) ≡ None
+  shallow : first_deep (words rows) (limited depth_limit) (rows_in rows) ≡ None
+  plain : first_made (words rows) (rows_in rows) ≡ None
 
 never : {A : Type 0} → ◌≡◌ {A = ℕ} 0 1 → A
 never h = absurd (omega arith)
 
-if_sized : (b : Bool) (c : Checked) → cond b c Malformed ≡ Sound → (b ≡ true) × (c ≡ Sound)
+if_sized : (b : Bool) (c : Checked) → cond b c (Err Malformed) ≡ Sound → (b ≡ true) × (c ≡ Sound)
 if_sized true c h = (refl, h)
 if_sized false c h = never (cc)
 
-if_named : (f : Found) (c : Checked) → unless_named f c ≡ Sound → (f ≡ Nothing) × (c ≡ Sound)
-if_named (At k) c h = never (cc)
-if_named Nothing c h = (refl, h)
+if_named : (f : Option ℕ) (c : Checked) → unless_named f c ≡ Sound → (f ≡ None) × (c ≡ Sound)
+if_named (Some k) c h = never (cc)
+if_named None c h = (refl, h)
 
-if_fine : (f : RowFault) (c : Checked) → unless_fault f c ≡ Sound → (f ≡ Fine) × (c ≡ Sound)
-if_fine (Bad k r) c h = never (cc)
-if_fine Fine c h = (refl, h)
+if_fine : (f : Option RowFault) (c : Checked) → unless_fault f c ≡ Sound → (f ≡ None) × (c ≡ Sound)
+if_fine (Some bad) c h = never (cc)
+if_fine None c h = (refl, h)
 
-if_shallow : (f : Found) (c : Checked) → unless_deep f c ≡ Sound → (f ≡ Nothing) × (c ≡ Sound)
-if_shallow (At k) c h = never (cc)
-if_shallow Nothing c h = (refl, h)
+if_shallow : (f : Option ℕ) (c : Checked) → unless_deep f c ≡ Sound → (f ≡ None) × (c ≡ Sound)
+if_shallow (Some k) c h = never (cc)
+if_shallow None c h = (refl, h)
 
-if_plain : (f : Found) (c : Checked) → unless_made f c ≡ Sound → (f ≡ Nothing) × (c ≡ Sound)
-if_plain (At k) c h = never (cc)
-if_plain Nothing c h = (refl, h)
+if_plain : (f : Option ℕ) (c : Checked) → unless_made f c ≡ Sound → (f ≡ None) × (c ≡ Sound)
+if_plain (Some k) c h = never (cc)
+if_plain None c h = (refl, h)
 
 passed : (row_limit depth_limit : ℕ) (rows names text : List ℕ) → checked row_limit depth_limit rows names text ≡ Sound → Passed row_limit depth_limit rows names text
 unfolding checked
@@ -81,7 +78,7 @@ passed row_limit depth_limit rows names text h =
     record { sizes = h1.0; named = h4.0; fine = h2.0; shallow = h3.0; plain = h5.0 }
 
 -- a table without a fault, whatever its depth
-module _ (rows : List ℕ) (names : ℕ) (bytes : length rows ≡ 16 * rows_in rows) (some : 0 < rows_in rows) (fine : first_fault (words rows) (rows_in rows) names ≡ Fine) where
+module _ (rows : List ℕ) (names : ℕ) (bytes : length rows ≡ 16 * rows_in rows) (some : 0 < rows_in rows) (fine : first_fault (words rows) (rows_in rows) names ≡ None) where
   ok : (i : ℕ) → i < rows_in rows → Fit (words rows) (rows_in rows) names i
   ok = none-faulty (words rows) (rows_in rows) names (sym (first-lowest (words rows) (rows_in rows) names some) ∙ fine)
 
@@ -127,12 +124,12 @@ module _ (row_limit depth_limit : ℕ) (rows names text : List ℕ) where
   accepts f q g named shaped shallow plain =
       let a = g.row_bytes in
       let sized : size f ≡ rows_in rows = omega (arith, length-flat 0 f, ap length q, words_long rows (4 * rows_in rows) (omega arith)) in
-      let fine : first_fault (words rows) (rows_in rows) (names_in names) ≡ Fine =
+      let fine : first_fault (words rows) (rows_in rows) (names_in names) ≡ None =
       first-lowest (words rows) (rows_in rows) (names_in names) g.some
       ∙ ap (λ (x : ℕ). lowest_fault (words rows) x (names_in names)) (sym sized) ∙ ap (λ (ws : List ℕ). lowest_fault ws (size f) (names_in names)) (sym q) ∙ complete (names_in names) f shaped in
       let same : f ≡ table rows = flat-one 0 f (table rows) (q ∙ sym (fine_table rows (names_in names) g.row_bytes g.some fine).0) in
       let nest : Nested (words rows) (rows_in rows) = fine_nested rows (names_in names) g.row_bytes g.some fine in
-      sym (is-checked row_limit depth_limit rows names text Nothing Nothing Nothing Fine (sizes-good row_limit depth_limit rows names text g)
+      sym (is-checked row_limit depth_limit rows names text None None None None (sizes-good row_limit depth_limit rows names text g)
       (none_first (bad_name names text) (names_in names) 1 (λ k x y. name-good names text k (named k (omega arith) (omega arith))))
       fine
       (none_first _ (rows_in rows) 0 (λ i x y. le-ltb _ _ (depth_fine rows (names_in names) g.row_bytes g.some fine (limited depth_limit) (subst (λ (t : Rows). DepthWithin (limited depth_limit) 0 t) same shallow) i (omega arith))))

@@ -1,6 +1,6 @@
 -- The number of a name's bytes. Assumes nothing.
 use mathlib.Core.Path.{◌≡◌, refl, ap, sym, ◌∙◌}
-use mathlib.Core.Bool.{true, false, false≢true}
+use mathlib.Core.Bool.{true, false≢true}
 use mathlib.Core.List.{List, [], ◌∷◌}
 use Prim.Native.Nat.{ℕ, ◌+◌, ◌*◌, ◌%◌, ◌≤◌, ◌<◌}
 use native.Mathlib.Omega.{arith}
@@ -11,9 +11,8 @@ use lib.Seq.{drop-cons}
 use borrow.Author.Tests.{eqb-true, eq-eqb}
 use Rattle.names.specs.Names.{bytes_of, same_bytes, same_name}
 use Rattle.names.proofs.Bools.{and_left, and_right, and_both}
-use Rattle.spelling.specs.Spelling.{is_name}
 use Rattle.spelling.specs.Hash.{hash_from, hash_of}
-use Rattle.spelling.proofs.Bytes.{drop_all, no_bytes}
+use Rattle.spelling.proofs.Bytes.{drop_all}
 
 -- The loop, at byte i, with the number h of those before it.
 pub record Hashing (xs : List ℕ) (h i : ℕ) : Type 0 where
@@ -33,11 +32,6 @@ module _ {xs : List ℕ} {h i : ℕ} (H : Hashing xs h i) where
   pub hashed_all : length xs ≤ i → h ≡ hash_of xs
   unfolding hash_from
   hashed_all l = sym (ap (hash_from h) (drop_all i xs (omega (arith, H.low)))) ∙ H.same
-
--- a number that is no name has no bytes
-pub hash_none : (names text : List ℕ) (k : ℕ) → is_name names k ≡ false → 0 ≡ hash_of (bytes_of names text k)
-unfolding hash_from
-hash_none names text k h = sym (ap hash_of (no_bytes names text k h))
 
 -- names that are the same have the same bytes
 pub same-list : (xs ys : List ℕ) → same_bytes xs ys ≡ true → xs ≡ ys

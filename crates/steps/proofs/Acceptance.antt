@@ -1,4 +1,5 @@
 -- What acceptance gives, over the bytes lent: the owner rule (demand 3) and the bounds. Assumes nothing.
+use Rattle.std.specs.Prelude.{Option, Some, None, Ok, Err}
 use mathlib.Core.Path.{◌≡◌, refl, ap, sym, subst, ◌∙◌}
 use mathlib.Core.List.{List}
 use Prim.Native.Nat.{ℕ, ◌+◌, ◌*◌, ◌≤◌, ◌<◌, ◌^◌}
@@ -11,11 +12,7 @@ use Rattle.names.specs.Words.{rows_in, names_in}
 use Rattle.forest.specs.Forest.{Rows, Rows.none, Rows.node, size, flat, table}
 use Rattle.rows.specs.Sound.{SoundTable}
 use Rattle.names.specs.Names.{same_name, bytes_of, same_bytes}
-use Rattle.rows.specs.Refusals.{checked}
-use Rattle.names.specs.declared.Found.{Found}
-use Rattle.names.specs.declared.Found.TheVariants.{At, Nothing}
-use Rattle.rows.specs.declared.Checked.{Checked}
-use Rattle.rows.specs.declared.Checked.TheVariants.{Sound, Malformed, BadName, BadRow, TooDeep, MadeBinding}
+use Rattle.rows.specs.Refusals.{checked, Checked, Sound}
 use Rattle.forest.proofs.Accepting.{length-flat}
 use Rattle.rows.proofs.Soundness.{sound, words_long}
 use Rattle.steps.specs.Mode.{Switches}
@@ -87,16 +84,12 @@ owner_rule row_limit depth_limit rows names text A Q =
 
 -- Acceptance is what the outcome says: a table is accepted exactly if its outcome is the result within the room.
 unless_refused_no : (c : Checked) (o : Outcome) (rows bindings : List ℕ) → unless_refused c o ≡ converted rows bindings → (c ≡ Sound) × (o ≡ converted rows bindings)
-unless_refused_no Sound o rows bindings h = (refl, h)
-unless_refused_no Malformed o rows bindings h = absurd (let z : ◌≡◌ {A = ℕ} 0 1 = cc in omega arith)
-unless_refused_no (BadName n) o rows bindings h = absurd (let z : ◌≡◌ {A = ℕ} 0 1 = cc in omega arith)
-unless_refused_no (BadRow c r) o rows bindings h = absurd (let z : ◌≡◌ {A = ℕ} 0 1 = cc in omega arith)
-unless_refused_no (TooDeep r) o rows bindings h = absurd (let z : ◌≡◌ {A = ℕ} 0 1 = cc in omega arith)
-unless_refused_no (MadeBinding r) o rows bindings h = absurd (let z : ◌≡◌ {A = ℕ} 0 1 = cc in omega arith)
+unless_refused_no (Ok sound) o rows bindings h = (refl, h)
+unless_refused_no (Err unsound) o rows bindings h = absurd (let z : ◌≡◌ {A = ℕ} 0 1 = cc in omega arith)
 
-unless_at_no : (n : ℕ) (f : Found) (o : Outcome) (rows bindings : List ℕ) → unless_at n f o ≡ converted rows bindings → (f ≡ Nothing) × (o ≡ converted rows bindings)
-unless_at_no n Nothing o rows bindings h = (refl, h)
-unless_at_no n (At r) o rows bindings h = absurd (let z : ◌≡◌ {A = ℕ} 0 1 = cc in omega arith)
+unless_at_no : (n : ℕ) (f : Option ℕ) (o : Outcome) (rows bindings : List ℕ) → unless_at n f o ≡ converted rows bindings → (f ≡ None) × (o ≡ converted rows bindings)
+unless_at_no n None o rows bindings h = (refl, h)
+unless_at_no n (Some r) o rows bindings h = absurd (let z : ◌≡◌ {A = ℕ} 0 1 = cc in omega arith)
 
 within_yes : (b : Bool) (xs ys rows bindings : List ℕ) → cond b (converted xs ys) (refused 9 0) ≡ converted rows bindings → (b ≡ true) × ((rows ≡ xs) × (bindings ≡ ys))
 within_yes true xs ys rows bindings h = (refl, ((cc), (cc)))

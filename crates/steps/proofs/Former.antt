@@ -1,5 +1,6 @@
 -- Change request No. 3: one of 21 to 25 is answered exactly where 2 was, at the same place, and every other answer is the same (`five_exactly`); so 2 is never answered (`two_retired`).
 -- Assumes nothing.
+use Rattle.std.specs.Prelude.{Option, Some, None, Ok, Err}
 use mathlib.Core.Path.{◌≡◌, refl, ap, sym, subst, ◌∙◌}
 use mathlib.Core.Bool.{Bool, true, false, cond}
 use mathlib.Core.List.{List}
@@ -11,18 +12,15 @@ use Rattle.names.specs.Names.{first_bad_name}
 use Rattle.forest.specs.Faults.{first_fault}
 use Rattle.forest.specs.Bad.{row_of}
 use Rattle.forest.specs.Told.{first_deep}
-use Rattle.rows.specs.Refusals.{fault_by_class, limited, sizes_ok, first_made, unless_named, unless_fault, unless_deep, unless_made, checked}
-use Rattle.names.specs.declared.Found.{Found}
-use Rattle.names.specs.declared.Found.TheVariants.{At, Nothing}
-use Rattle.forest.specs.declared.RowFault.{RowFault}
-use Rattle.forest.specs.declared.RowFault.TheVariants.{Fine, Bad}
-use Rattle.rows.specs.declared.Checked.TheVariants.{Sound, Malformed}
+use Rattle.rows.specs.Refusals.{limited, sizes_ok, first_made, unless_named, unless_fault, unless_deep, unless_made, checked, Sound}
 use Rattle.forest.proofs.Classes.{first-bad}
 use Rattle.rows.proofs.Five.{fault-five}
 use Rattle.steps.specs.Mode.{Switches}
 use Rattle.steps.specs.Outcome.{Outcome, Outcome.refused, Outcome.converted, Room, unless_refused, unless_at, outcome}
 use Rattle.steps.specs.Former.{former_outcome, FiveExactly}
 use Rattle.steps.proofs.Refusing.{RefusedBy, later, later-by}
+use Rattle.rows.specs.declared.Unsound.TheVariants.{Malformed}
+use Rattle.forest.specs.declared.BadRow.{BadRow as RowFault}
 
 -- neither 2 nor one of the five
 abbrev Other : ℕ → Type 0
@@ -57,15 +55,15 @@ one_of-five number row least most = record {
   others = λ n. absurd (n row refl);
 }
 
-by_tests : (sized : Bool) (named : Found) (fault : RowFault) (deep made : Found) (rest : Outcome) → RefusedBy Other rest
-    → FiveExactly (unless_refused (cond sized (unless_named named (unless_fault fault (unless_deep deep (unless_made made Sound)))) Malformed) rest)
+by_tests : (sized : Bool) (named : Option ℕ) (fault : Option RowFault) (deep made : Option ℕ) (rest : Outcome) → RefusedBy Other rest
+    → FiveExactly (unless_refused (cond sized (unless_named named (unless_fault fault (unless_deep deep (unless_made made Sound)))) (Err Malformed)) rest)
     (cond sized (unless_at 4 named (unless_at 2 (row_of fault) (unless_at 3 deep (unless_at 5 made rest)))) (refused 1 0))
 by_tests false named fault deep made rest h = same (refused 1 0) (omega arith, λ q. omega arith)
-by_tests true (At name) fault deep made rest h = same (refused 4 name) (omega arith, λ q. omega arith)
-by_tests true Nothing (Bad class row) deep made rest h = one_of-five _ row (fault-five (fault_by_class class)).0 (fault-five (fault_by_class class)).1
-by_tests true Nothing Fine (At row) made rest h = same (refused 3 row) (omega arith, λ q. omega arith)
-by_tests true Nothing Fine Nothing (At row) rest h = same (refused 5 row) (omega arith, λ q. omega arith)
-by_tests true Nothing Fine Nothing Nothing rest h = same rest h
+by_tests true (Some name) fault deep made rest h = same (refused 4 name) (omega arith, λ q. omega arith)
+by_tests true None (Some bad) deep made rest h = one_of-five _ bad.row (fault-five bad.fault).0 (fault-five bad.fault).1
+by_tests true None None (Some row) made rest h = same (refused 3 row) (omega arith, λ q. omega arith)
+by_tests true None None None (Some row) rest h = same (refused 5 row) (omega arith, λ q. omega arith)
+by_tests true None None None None rest h = same rest h
 
 -- what has changed is not 2
 never-two : (now before : Outcome) (place : ℕ) → FiveExactly now before → now ≡ refused 2 place → ⊥
@@ -84,7 +82,7 @@ module _ (row_limit depth_limit : ℕ) (w : Switches) (rows names text : List �
       let made = first_made (words rows) (rows_in rows) in
       let rest = later w rows names text room in
       subst
-      (λ (bad : Found). FiveExactly (outcome row_limit depth_limit w rows names text room) (cond sized (unless_at 4 (first_bad_name names text) (unless_at 2 bad (unless_at 3 deep (unless_at 5 made rest)))) (refused 1 0)))
+      (λ (bad : Option ℕ). FiveExactly (outcome row_limit depth_limit w rows names text room) (cond sized (unless_at 4 (first_bad_name names text) (unless_at 2 bad (unless_at 3 deep (unless_at 5 made rest)))) (refused 1 0)))
       (first-bad (words rows) (names_in names) (rows_in rows))
       (by_tests sized (first_bad_name names text) fault deep made rest
       (later-by Other (omega arith, λ q. omega arith) (omega arith, λ q. omega arith) (omega arith, λ q. omega arith) (omega arith, λ q. omega arith) w rows names text room))

@@ -1,12 +1,11 @@
 -- What holds of the number of a refusal, whatever is answered after the checks of the table: of 6, 7, 8 and 9. Assumes nothing.
+use Rattle.std.specs.Prelude.{Option, Some, None}
 use mathlib.Core.Bool.{Bool, true, false, cond, ◌&&◌}
 use mathlib.Core.List.{List}
 use Prim.Native.Nat.{ℕ}
 use lib.Dec.{leb}
 use lib.ListN.{length}
 use Rattle.forest.specs.Forest.{size, table}
-use Rattle.names.specs.declared.Found.{Found}
-use Rattle.names.specs.declared.Found.TheVariants.{At, Nothing}
 use Rattle.steps.specs.Mode.{Switches}
 use Rattle.steps.specs.Steps.{steps}
 use Rattle.steps.specs.Refusals.{six, seven, eight}
@@ -24,9 +23,9 @@ later w rows names text room =
     (within room (steps (names_of names text) w (table rows)))))
 
 module _ (P : ℕ → Type 0) where
-  found_by : (number : ℕ) (f : Found) (o : Outcome) → P number → RefusedBy P o → RefusedBy P (unless_at number f o)
-  found_by number (At row) o p h = p
-  found_by number Nothing o p h = h
+  found_by : (number : ℕ) (f : Option ℕ) (o : Outcome) → P number → RefusedBy P o → RefusedBy P (unless_at number f o)
+  found_by number (Some row) o p h = p
+  found_by number None o p h = h
 
   room_by : (b : Bool) (rows bindings : List ℕ) → P 9 → RefusedBy P (cond b (converted rows bindings) (refused 9 0))
   room_by true rows bindings p = tt

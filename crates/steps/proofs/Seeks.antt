@@ -1,4 +1,5 @@
 -- The first row of which a test holds, over the forest and over the words: the same where the words are the forest's. Assumes nothing.
+use Rattle.std.specs.Prelude.{Option, Some, None}
 use mathlib.Core.Path.{◌≡◌, refl, ap, sym, ◌∙◌}
 use mathlib.Core.List.{List, [], ◌∷◌, ◌++◌, append-nil, append_assoc}
 use Prim.Native.Nat.{ℕ, zero, suc, ◌+◌, ◌*◌, ◌≤◌, ◌<◌}
@@ -7,23 +8,21 @@ use lib.ListN.{length, get_or, drop}
 use lib.Seq.{drop-cons}
 use native.Mathlib.Omega.{arith}
 use native.Mathlib.Nat.{add-zero}
-use Rattle.names.specs.declared.Found.{Found}
-use Rattle.names.specs.declared.Found.TheVariants.{At, Nothing}
 use Rattle.names.specs.First.{first}
 use Rattle.names.specs.Words.{kind_at, attr_at, name_at, end_at}
 use Rattle.forest.specs.Forest.{Rows, Rows.none, Rows.node, size, flat}
 use Rattle.steps.specs.Refusals.{or_else, Rule, seek, alone}
 
-pub else_nothing : (f : Found) → or_else f Nothing ≡ f
-else_nothing (At r) = refl
-else_nothing Nothing = refl
+pub else_nothing : (f : Option ℕ) → or_else f None ≡ f
+else_nothing (Some r) = refl
+else_nothing None = refl
 
-pub else_tree : (c i s l : Found) → or_else c (or_else i (or_else s l)) ≡ or_else (or_else c (or_else i s)) l
-else_tree (At r) i s l = refl
-else_tree Nothing (At r) s l = refl
-else_tree Nothing Nothing s l = refl
+pub else_tree : (c i s l : Option ℕ) → or_else c (or_else i (or_else s l)) ≡ or_else (or_else c (or_else i s)) l
+else_tree (Some r) i s l = refl
+else_tree None (Some r) s l = refl
+else_tree None None s l = refl
 
-pub else_cond : (b : Bool) (o : ℕ) (g : Found) → or_else (cond b (At o) Nothing) g ≡ cond b (At o) g
+pub else_cond : (b : Bool) (o : ℕ) (g : Option ℕ) → or_else (cond b (Some o) None) g ≡ cond b (Some o) g
 else_cond true o g = refl
 else_cond false o g = refl
 
@@ -51,12 +50,12 @@ first-same f g (suc n) i h = rw (h i (omega arith) (omega arith), first-same f g
 -- A test that asks nothing from outward: over the words it may ask the row's number, its four words and the words after them.
 module _ (B : (o k a n e : ℕ) → List ℕ → Bool) (t : (k a n : ℕ) → Rows → Bool) (same : (o k a n : ℕ) (i : Rows) (ws : List ℕ) → B o k a n (o + 1 + size i) (flat (o + 1) i ++ ws) ≡ t k a n i) where
   -- the first row, numbered from o, of the rows whose words these are
-  unfoldable lead : ℕ → List ℕ → Found
-  lead o [] = Nothing
-  lead o (k ∷ []) = Nothing
-  lead o (k ∷ a ∷ []) = Nothing
-  lead o (k ∷ a ∷ n ∷ []) = Nothing
-  lead o (k ∷ a ∷ n ∷ e ∷ ws) = or_else (cond (B o k a n e ws) (At o) Nothing) (lead (o + 1) ws)
+  unfoldable lead : ℕ → List ℕ → Option ℕ
+  lead o [] = None
+  lead o (k ∷ []) = None
+  lead o (k ∷ a ∷ []) = None
+  lead o (k ∷ a ∷ n ∷ []) = None
+  lead o (k ∷ a ∷ n ∷ e ∷ ws) = or_else (cond (B o k a n e ws) (Some o) None) (lead (o + 1) ws)
 
   lead_flat : (o : ℕ) (r : Rows) (ws : List ℕ) → lead o (flat o r ++ ws) ≡ or_else (seek (alone t) tt tt o r) (lead (o + size r) ws)
   unfolding lead flat seek size
@@ -64,7 +63,7 @@ module _ (B : (o k a n e : ℕ) → List ℕ → Bool) (t : (k a n : ℕ) → Ro
   lead_flat o (node k a n i s) ws =
       let e : o + (1 + size i + size s) ≡ o + 1 + size i + size s = omega arith in
       rw (append_assoc (flat (o + 1) i) (flat (o + 1 + size i) s) ws, same o k a n i (flat (o + 1 + size i) s ++ ws), lead_flat (o + 1) i (flat (o + 1 + size i) s ++ ws), lead_flat (o + 1 + size i) s ws, e)
-      (else_tree (cond (t k a n i) (At o) Nothing) (seek (alone t) tt tt (o + 1) i) (seek (alone t) tt tt (o + 1 + size i) s) (lead (o + 1 + size i + size s) ws))
+      (else_tree (cond (t k a n i) (Some o) None) (seek (alone t) tt tt (o + 1) i) (seek (alone t) tt tt (o + 1 + size i) s) (lead (o + 1 + size i + size s) ws))
 
   lead_first : (ws : List ℕ) (f i : ℕ) → length ws ≡ 4 * (i + f) → lead i (drop (4 * i) ws) ≡ first (λ j. B j (kind_at ws j) (attr_at ws j) (name_at ws j) (end_at ws j) (drop (4 * (j + 1)) ws)) f i
   unfolding lead first
@@ -87,12 +86,12 @@ pub by_rows : (t : (k a n : ℕ) → Bool) (ws : List ℕ) (n : ℕ) (r : Rows) 
 by_rows t ws n r q h = by-ends (λ o k a n e ws. t k a n) (λ k a n i. t k a n) (λ o k a n i ws. refl) ws n r q h
 
 -- what is found is one of the rows
-below_cases : (b : Bool) (f g : Found) (o i s r : ℕ) → (f ≡ At r → r < o + 1 + i) → (g ≡ At r → r < o + 1 + i + s) → or_else (cond b (At o) Nothing) (or_else f g) ≡ At r → r < o + (1 + i + s)
+below_cases : (b : Bool) (f g : Option ℕ) (o i s r : ℕ) → (f ≡ Some r → r < o + 1 + i) → (g ≡ Some r → r < o + 1 + i + s) → or_else (cond b (Some o) None) (or_else f g) ≡ Some r → r < o + (1 + i + s)
 below_cases true f g o i s r hf hg h = let q : o ≡ r = cc in omega arith
-below_cases false (At x) g o i s r hf hg h = let l = hf h in omega arith
-below_cases false Nothing g o i s r hf hg h = let l = hg h in omega arith
+below_cases false (Some x) g o i s r hf hg h = let l = hf h in omega arith
+below_cases false None g o i s r hf hg h = let l = hg h in omega arith
 
-pub seek_below : {C : Type 0} (R : Rule C) (x y : C) (o : ℕ) (t : Rows) (r : ℕ) → seek R x y o t ≡ At r → r < o + size t
+pub seek_below : {C : Type 0} (R : Rule C) (x y : C) (o : ℕ) (t : Rows) (r : ℕ) → seek R x y o t ≡ Some r → r < o + size t
 unfolding seek size
 seek_below R x y o none r h = absurd (let z : ◌≡◌ {A = ℕ} 0 1 = cc in omega arith)
 seek_below R x y o (node k a n i s) r h =

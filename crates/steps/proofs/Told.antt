@@ -1,4 +1,5 @@
 -- The first row of which a test holds, where the test asks what a row is told from outward: over the forest, and over the rows by an array that parents fill for their children. Assumes nothing.
+use Rattle.std.specs.Prelude.{Option, Some, None}
 use mathlib.Core.Path.{◌≡◌, refl, ap, sym, ◌∙◌}
 use mathlib.Core.List.{List, [], ◌∷◌, ◌++◌, append-nil, append_assoc}
 use Prim.Native.Nat.{ℕ, zero, suc, ◌+◌, ◌*◌, ◌-◌, ◌<◌}
@@ -8,8 +9,6 @@ use lib.Seq.{drop-cons}
 use native.Mathlib.Omega.{arith}
 use native.Mathlib.Nat.{add-zero}
 use native.Mathlib.Numerals.{add-one}
-use Rattle.names.specs.declared.Found.{Found}
-use Rattle.names.specs.declared.Found.TheVariants.{At, Nothing}
 use Rattle.names.specs.First.{first}
 use Rattle.names.specs.Words.{kind_at, attr_at, name_at, end_at}
 use Rattle.forest.specs.Told.{told_by}
@@ -35,13 +34,13 @@ module _ (t : ℕ → ℕ → ℕ → ℕ → ℕ) (b : ℕ → ℕ → ℕ → 
   abbrev pub tells : Rule ℕ
   tells = record { bad = λ v k a n i. b v k a n; one = λ v k a. t v k a 0; more = λ v k a. t v k a 1 }
 
-  unfoldable lead : ℕ → List ℕ → List ℕ → Found
-  lead o [] vs = Nothing
-  lead o (k ∷ []) vs = Nothing
-  lead o (k ∷ a ∷ []) vs = Nothing
-  lead o (k ∷ a ∷ n ∷ []) vs = Nothing
-  lead o (k ∷ a ∷ n ∷ e ∷ ws) [] = Nothing
-  lead o (k ∷ a ∷ n ∷ e ∷ ws) (v ∷ vs) = or_else (cond (b v k a n) (At o) Nothing) (lead (o + 1) ws vs)
+  unfoldable lead : ℕ → List ℕ → List ℕ → Option ℕ
+  lead o [] vs = None
+  lead o (k ∷ []) vs = None
+  lead o (k ∷ a ∷ []) vs = None
+  lead o (k ∷ a ∷ n ∷ []) vs = None
+  lead o (k ∷ a ∷ n ∷ e ∷ ws) [] = None
+  lead o (k ∷ a ∷ n ∷ e ∷ ws) (v ∷ vs) = or_else (cond (b v k a n) (Some o) None) (lead (o + 1) ws vs)
 
   lead_flat : (o : ℕ) (r : Rows) (v k a pos : ℕ) (ws vs : List ℕ) → lead o (flat o r ++ ws) (down t v k a pos r ++ vs) ≡ or_else (seek tells (t v k a pos) (t v k a 1) o r) (lead (o + size r) ws vs)
   unfolding lead flat seek size down
@@ -53,7 +52,7 @@ module _ (t : ℕ → ℕ → ℕ → ℕ → ℕ) (b : ℕ → ℕ → ℕ → 
       let hi = lead_flat (o + 1) i (t v k a pos) k' a' 0 (flat (o + 1 + size i) s ++ ws) (down t v k a (pos + 1) s ++ vs) in
       let hs = lead_flat (o + 1 + size i) s v k a (pos + 1) ws vs in
       rw (append_assoc (flat (o + 1) i) (flat (o + 1 + size i) s) ws, append_assoc (down t (t v k a pos) k' a' 0 i) (down t v k a (pos + 1) s) vs, hi, hs, steady v k a pos, e)
-      (else_tree (cond (b u k' a' n') (At o) Nothing) (seek tells (t u k' a' 0) (t u k' a' 1) (o + 1) i) (seek tells (t v k a 1) (t v k a 1) d s) (lead (d + size s) ws vs))
+      (else_tree (cond (b u k' a' n') (Some o) None) (seek tells (t u k' a' 0) (t u k' a' 1) (o + 1) i) (seek tells (t v k a 1) (t v k a 1) d s) (lead (d + size s) ws vs))
 
   lead_first : (ws vs : List ℕ) (f i : ℕ) → length ws ≡ 4 * (i + f) → length vs ≡ i + f →
       lead i (drop (4 * i) ws) (drop i vs) ≡ first (λ j. b (get_or vs j 0) (kind_at ws j) (attr_at ws j) (name_at ws j)) f i
@@ -67,8 +66,8 @@ module _ (t : ℕ → ℕ → ℕ → ℕ → ℕ) (b : ℕ → ℕ → ℕ → 
   unfolding lead flat seek
   root_lead r k a n i =
       let h = lead_flat 1 i r k a 0 [] [] in
-      let h' : lead 1 (flat 1 i ++ []) (down t r k a 0 i) ≡ or_else (seek tells (t r k a 0) (t r k a 1) 1 i) Nothing = ap (lead 1 (flat 1 i ++ [])) (sym (append-nil (down t r k a 0 i))) ∙ h in
-      ap (or_else (cond (b r k a n) (At 0) Nothing)) h'
+      let h' : lead 1 (flat 1 i ++ []) (down t r k a 0 i) ≡ or_else (seek tells (t r k a 0) (t r k a 1) 1 i) None = ap (lead 1 (flat 1 i ++ [])) (sym (append-nil (down t r k a 0 i))) ∙ h in
+      ap (or_else (cond (b r k a n) (Some 0) None)) h'
 
   -- what a row p that was told v tells its child at position pos, over the words
   abbrev pub telling : List ℕ → ℕ → ℕ → ℕ → ℕ → ℕ

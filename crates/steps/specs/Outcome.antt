@@ -1,11 +1,7 @@
 -- What is answered for every input: the refusals in the request's order, and the result. Assumes nothing.
-use Rattle.std.specs.Prelude.{List, [], ◌∷◌, ℕ, cond, ◌&&◌, leb, length}
+use Rattle.std.specs.Prelude.{List, [], ◌∷◌, ℕ, cond, ◌&&◌, leb, length, Option, Some, None, Ok, Err}
 use Rattle.forest.specs.Forest.{size, flat, table}
-use Rattle.rows.specs.Refusals.{checked, number_of, place_for}
-use Rattle.names.specs.declared.Found.{Found}
-use Rattle.names.specs.declared.Found.TheVariants.{At, Nothing}
-use Rattle.rows.specs.declared.Checked.{Checked}
-use Rattle.rows.specs.declared.Checked.TheVariants.{Sound, Malformed, BadName, BadRow, TooDeep, MadeBinding}
+use Rattle.rows.specs.Refusals.{checked, unsound_number, unsound_place, Checked, Sound}
 use Rattle.steps.specs.Mode.{Switches}
 use Rattle.steps.specs.Naming.{Names}
 use Rattle.steps.specs.Bindings.{Binding, Binding.bind}
@@ -32,16 +28,12 @@ names_of names text = record { pairs = names; text = text }
 
 -- 1, 4, 21 to 25, 3 and 5, as the crate `rows` has them
 abbrev pub unless_refused : Checked → Outcome → Outcome
-unless_refused Sound other = other
-unless_refused Malformed other = refused (number_of Malformed) (place_for Malformed)
-unless_refused (BadName name) other = refused (number_of (BadName name)) (place_for (BadName name))
-unless_refused (BadRow fault row) other = refused (number_of (BadRow fault row)) (place_for (BadRow fault row))
-unless_refused (TooDeep row) other = refused (number_of (TooDeep row)) (place_for (TooDeep row))
-unless_refused (MadeBinding row) other = refused (number_of (MadeBinding row)) (place_for (MadeBinding row))
+unless_refused (Ok sound) other = other
+unless_refused (Err unsound) other = refused (unsound_number unsound) (unsound_place unsound)
 
-abbrev pub unless_at : (number : ℕ) → Found → Outcome → Outcome
-unless_at number (At row) other = refused number row
-unless_at number Nothing other = other
+abbrev pub unless_at : (number : ℕ) → Option ℕ → Outcome → Outcome
+unless_at number (Some row) other = refused number row
+unless_at number None other = other
 
 -- 9: "the result has more rows or bindings than the whole ones lent", place 0
 unfoldable pub within : Room → Result → Outcome

@@ -1,15 +1,13 @@
 -- Refusals 6, 7 and 8 of "Turned away", over the forest of a table: each is the first row of which a test holds. Assumes nothing.
-use Rattle.std.specs.Prelude.{ℕ, ◌+◌, Bool, true, false, cond, not, ◌&&◌, ◌||◌, eqb}
-use Rattle.names.specs.declared.Found.{Found}
-use Rattle.names.specs.declared.Found.TheVariants.{At, Nothing}
+use Rattle.std.specs.Prelude.{ℕ, ◌+◌, Bool, true, false, cond, not, ◌&&◌, ◌||◌, eqb, Option, Some, None}
 use Rattle.grammar.specs.Kinds.{Program, Declarator, Super, Call, Arrow, Function, Class, Method, Field, StaticBlock, Property}
 use Rattle.forest.specs.Forest.{Rows, Rows.none, Rows.node, size}
 use Rattle.steps.specs.Mode.{Switches, bit, enabled, async_only}
 use Rattle.steps.specs.Naming.{Names, named_arguments}
 
-abbrev pub or_else : Found → Found → Found
-or_else Nothing g = g
-or_else (At r) g = At r
+abbrev pub or_else : Option ℕ → Option ℕ → Option ℕ
+or_else None g = g
+or_else (Some r) g = Some r
 
 -- A test of rows, given what a row is told from outward; `one` and `more` say what its first child and its later ones are told.
 pub record Rule (C : Type 0) : Type 0 where
@@ -18,10 +16,10 @@ pub record Rule (C : Type 0) : Type 0 where
   pub more : C → (k a : ℕ) → C
 
 -- the first row such that the test holds: x is told to the first row, y to the later ones, o is the first row's number
-unfoldable pub seek : {C : Type 0} → Rule C → (x y : C) → ℕ → Rows → Found
-seek R x y o none = Nothing
+unfoldable pub seek : {C : Type 0} → Rule C → (x y : C) → ℕ → Rows → Option ℕ
+seek R x y o none = None
 seek R x y o (node k a n i s) =
-    or_else (cond (R.bad x k a n i) (At o) Nothing)
+    or_else (cond (R.bad x k a n i) (Some o) None)
     (or_else (seek R (R.one x k a) (R.more x k a) (o + 1) i)
     (seek R y y (o + 1 + size i) s))
 
@@ -95,14 +93,14 @@ unfoldable pub eights : Names → Switches → Rule (Unit {0})
 eights N w = alone (λ k a n i. async_only w && (eqb k Declarator || eqb k Function || eqb k Class) && named_arguments N n)
 
 -- "Disabled gives no 6, 7, 8."
-abbrev pub unless_off : Switches → Found → Found
-unless_off w f = cond (enabled w || async_only w) f Nothing
+abbrev pub unless_off : Switches → Option ℕ → Option ℕ
+unless_off w f = cond (enabled w || async_only w) f None
 
-unfoldable pub six : Switches → Rows → Found
+unfoldable pub six : Switches → Rows → Option ℕ
 six w t = unless_off w (seek sixes outer outer 0 t)
 
-unfoldable pub seven : Switches → Rows → Found
+unfoldable pub seven : Switches → Rows → Option ℕ
 seven w t = unless_off w (seek (sevens w) tt tt 0 t)
 
-unfoldable pub eight : Names → Switches → Rows → Found
+unfoldable pub eight : Names → Switches → Rows → Option ℕ
 eight N w t = unless_off w (seek (eights N w) tt tt 0 t)

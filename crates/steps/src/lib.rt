@@ -6,7 +6,7 @@ ghost use Rattle.std.specs.Prelude.{◌≡◌};
 ghost use Rattle.steps.specs.Mode.{mode_of, switches, is_disabled, is_async_only, moves};
 
 // The mode of the conversion of arrow functions.
-#[derive(Clone, Copy)]
+#[derive(Clone, Copy, PartialEq, Eq)]
 pub enum ArrowFunctionConverterMode {
     // Rows are copied, and no bindings are made.
     Disabled,
@@ -47,36 +47,25 @@ impl ArrowFunctionConverter {
     pub fn is_disabled(self) -> bool
         ensures { result ≡ is_disabled self.mode }
     {
-        let mode = self.mode;
-        match mode {
-            ArrowFunctionConverterMode::Disabled => true,
-            ArrowFunctionConverterMode::Enabled => false,
-            ArrowFunctionConverterMode::AsyncOnly => false,
-        }
+        matches!(self.mode, ArrowFunctionConverterMode::Disabled)
     }
 
     pub fn is_async_only(self) -> bool
         ensures { result ≡ is_async_only self.mode }
     {
-        let mode = self.mode;
-        match mode {
-            ArrowFunctionConverterMode::Disabled => false,
-            ArrowFunctionConverterMode::Enabled => false,
-            ArrowFunctionConverterMode::AsyncOnly => true,
-        }
+        matches!(self.mode, ArrowFunctionConverterMode::AsyncOnly)
     }
 
     // Whether an async function will be moved: async generators have a switch of their own.
     pub fn will_transform_async_function(self, is_async: bool, generator: bool) -> bool
         ensures { result ≡ moves self.async_to_generator_enabled self.async_generator_functions_enabled is_async generator }
     {
-        if is_async {
-            if generator {
-                return self.async_generator_functions_enabled;
+        is_async
+            && if generator {
+                self.async_generator_functions_enabled
+            } else {
+                self.async_to_generator_enabled
             }
-            return self.async_to_generator_enabled;
-        }
-        false
     }
 }
 
@@ -88,10 +77,10 @@ fn mode_of(
     ensures { result ≡ mode_of (switches arrow_function async_to_generator async_generator_functions) }
 {
     if arrow_function {
-        return ArrowFunctionConverterMode::Enabled;
+        ArrowFunctionConverterMode::Enabled
+    } else if async_to_generator | async_generator_functions {
+        ArrowFunctionConverterMode::AsyncOnly
+    } else {
+        ArrowFunctionConverterMode::Disabled
     }
-    if async_to_generator | async_generator_functions {
-        return ArrowFunctionConverterMode::AsyncOnly;
-    }
-    ArrowFunctionConverterMode::Disabled
 }

@@ -4,20 +4,19 @@
 #![tactic(auto)]
 
 ghost use Rattle.std.specs.Prelude.{◌≡◌, false, ℕ, ◌<◌, ◌^◌, length};
-ghost use Rattle.base_text.specs.Refusals.{number_of, place_of, answer_number, answer_place, count_of, base_text, spelled};
+ghost use Rattle.base_text.specs.Refusals.{base_text, spelled};
 ghost use Rattle.candidates.specs.MadeNames.{made_names};
-ghost use Rattle.made_names.specs.Naming.{naming_number, naming_place, pair_count, byte_count, named};
-ghost use Rattle.answer.specs.Answer as answers;
+ghost use Rattle.made_names.specs.Naming.{named};
 ghost use Rattle.answer.specs.Converting.{Converts};
 ghost use Rattle.acts.specs.View.{switches_of};
-ghost use Rattle.thawcopper.specs.Entries.{BaseTextAnswered, NamesAnswered, PartAnswered, switches_from, on_tablet, switches_in};
+ghost use Rattle.thawcopper.specs.Entries.{TellsText, TellsNames, BaseTextAnswered, NamesAnswered, PartAnswered, switches_from, on_tablet, switches_in};
 
 use acts::switches::{Switches, has_bit};
-use answer::Converted;
-use base_text::{Refusal, Spelling};
+use answer::Numbers;
+use base_text::{Refusal, Script};
 use converter::convert;
-use lookup::part_of;
-use made_names::{Naming, make_names};
+use lookup::{part_of, refusal};
+use made_names::{Made, make_names};
 
 // What base text answers: the request's number and place, and how many bytes were written.
 #[repr(C)]
@@ -28,36 +27,22 @@ pub struct Spelled {
     pub bytes: u32,
 }
 
-fn answered(refusal: u32, place: u32, bytes: u32) -> Spelled
-    ensures { (result.refusal ≡ refusal) × (result.place ≡ place) × (result.bytes ≡ bytes) }
-{
-    Spelled {
-        refusal,
-        place,
-        bytes,
-    }
-}
+impl From<Result<u32, Refusal>> for Spelled {
+    ghost from_gives = { TellsText };
 
-// The request's numbers of a refusal of base text.
-fn numbers_of_refusal(refusal: Refusal) -> Spelled
-    ensures { (result.refusal ≡ number_of refusal) × (result.place ≡ place_of refusal) × (result.bytes ≡ 0) }
-{
-    match refusal {
-        Refusal::Malformed => answered(1, 0, 0),
-        Refusal::BadName { name } => answered(4, name, 0),
-        Refusal::BadBinding { binding } => answered(11, binding, 0),
-        Refusal::UnknownLetter { binding } => answered(10, binding, 0),
-        Refusal::NoRoom => answered(9, 0, 0),
-    }
-}
-
-// The request's numbers of an answer.
-fn numbers_of(answer: Spelling) -> Spelled
-    ensures { (result.refusal ≡ answer_number answer) × (result.place ≡ answer_place answer) × (result.bytes ≡ count_of answer) }
-{
-    match answer {
-        Spelling::Written { bytes } => answered(0, 0, bytes),
-        Spelling::Refused(refusal) => numbers_of_refusal(refusal),
+    fn from(answer: Result<u32, Refusal>) -> Spelled {
+        match answer {
+            Ok(bytes) => Spelled {
+                refusal: 0,
+                place: 0,
+                bytes,
+            },
+            Err(refusal) => Spelled {
+                refusal: refusal.number(),
+                place: refusal.place(),
+                bytes: 0,
+            },
+        }
     }
 }
 
@@ -73,7 +58,12 @@ pub fn thawcopper_base_text(
         (spelled number bindings.now names.now text.now (length out.old))
         (base_text number bindings.now names.now text.now) out.old out.new }
 {
-    numbers_of(base_text::base_text(number, bindings, names, text, out))
+    let script = Script {
+        bindings,
+        names,
+        text,
+    };
+    Spelled::from(base_text::base_text(number, script, out))
 }
 
 // What the maker of names answers: the request's number and place, and how many pairs and bytes were
@@ -87,26 +77,23 @@ pub struct Named {
     pub bytes: u32,
 }
 
-fn named_as(refusal: u32, place: u32, pairs: u32, bytes: u32) -> Named
-    ensures { (result.refusal ≡ refusal) × (result.place ≡ place) × (result.pairs ≡ pairs) × (result.bytes ≡ bytes) }
-{
-    Named {
-        refusal,
-        place,
-        pairs,
-        bytes,
-    }
-}
+impl From<Result<Made, Refusal>> for Named {
+    ghost from_gives = { TellsNames };
 
-// The request's numbers of an answer.
-fn numbers_of_naming(answer: Naming) -> Named
-    ensures { (result.refusal ≡ naming_number answer) × (result.place ≡ naming_place answer) × (result.pairs ≡ pair_count answer) × (result.bytes ≡ byte_count answer) }
-{
-    match answer {
-        Naming::Made { pairs, bytes } => named_as(0, 0, pairs, bytes),
-        Naming::Refused(refusal) => {
-            let numbers = numbers_of_refusal(refusal);
-            named_as(numbers.refusal, numbers.place, 0, 0)
+    fn from(answer: Result<Made, Refusal>) -> Named {
+        match answer {
+            Ok(made) => Named {
+                refusal: 0,
+                place: 0,
+                pairs: made.pairs,
+                bytes: made.bytes,
+            },
+            Err(refusal) => Named {
+                refusal: refusal.number(),
+                place: refusal.place(),
+                pairs: 0,
+                bytes: 0,
+            },
         }
     }
 }
@@ -125,7 +112,12 @@ pub fn thawcopper_make_names(
         (made_names bindings.now names.now text.now)
         out_pairs.old out_pairs.new out_text.old out_text.new }
 {
-    numbers_of_naming(make_names(bindings, names, text, out_pairs, out_text))
+    let script = Script {
+        bindings,
+        names,
+        text,
+    };
+    Named::from(make_names(script, out_pairs, out_text))
 }
 
 // What the spelling of an Ident answers: 18 or 0, and where its part starts and how long it is.
@@ -149,13 +141,19 @@ pub fn thawcopper_spelling(
 ) -> Part
     ensures { PartAnswered attr number names.now text.now made_pairs.now made_text.now result.refusal result.start result.bytes }
 {
-    let part = part_of(attr, number, names, text, made_pairs, made_text);
-    let start = part.start as u32;
-    let bytes = part.bytes as u32;
+    let found = part_of(attr, number, names, text, made_pairs, made_text);
+    let refusal = refusal(found);
+    let Some(part) = found else {
+        return Part {
+            refusal,
+            start: 0,
+            bytes: 0,
+        };
+    };
     Part {
-        refusal: part.refusal(),
-        start,
-        bytes,
+        refusal,
+        start: part.start as u32,
+        bytes: part.bytes as u32,
     }
 }
 
@@ -169,20 +167,16 @@ pub struct Answer {
     pub bindings: u32,
 }
 
-// The numbers of an answer that fits 32 bits.
-fn answer_of(converted: Converted) -> Answer
-    requires { (answers.place_of converted < 2 ^ 32) × ((answers.rows_of converted < 2 ^ 32) × (answers.bindings_of converted < 2 ^ 32)) }
-    ensures { (result.refusal ≡ answers.number_of converted) × (result.place ≡ answers.place_of converted) × (result.rows ≡ answers.rows_of converted) × (result.bindings ≡ answers.bindings_of converted) }
+// The numbers of an answer, where they fit 32 bits.
+fn answer_of(numbers: Numbers) -> Answer
+    requires { (numbers.place < 2 ^ 32) × ((numbers.rows < 2 ^ 32) × (numbers.bindings < 2 ^ 32)) }
+    ensures { (result.refusal ≡ numbers.number) × (result.place ≡ numbers.place) × (result.rows ≡ numbers.rows) × (result.bindings ≡ numbers.bindings) }
 {
-    let refusal = converted.number();
-    let place = converted.place() as u32;
-    let rows = converted.rows() as u32;
-    let bindings = converted.bindings() as u32;
     Answer {
-        refusal,
-        place,
-        rows,
-        bindings,
+        refusal: numbers.number,
+        place: numbers.place as u32,
+        rows: numbers.rows as u32,
+        bindings: numbers.bindings as u32,
     }
 }
 
@@ -199,7 +193,8 @@ fn convert_as(
     ensures { Converts tablet (switches_of switches) rows.now names.now text.now
         result.refusal result.place result.rows result.bindings out_rows.old out_rows.new out_bindings.old out_bindings.new }
 {
-    answer_of(convert(tablet, switches, rows, names, text, out_rows, out_bindings))
+    let converted = convert(tablet, switches, rows, names, text, out_rows, out_bindings);
+    answer_of(Numbers::from(converted))
 }
 
 // Converts a table of the print room: the rows of the result go to the front of `out_rows`, the records

@@ -3,7 +3,8 @@
 
 #![tactic(auto)]
 
+pub mod cases;
+pub mod compared;
 pub mod input;
-pub mod lent;
 pub mod runs;
-pub mod tally;
+pub mod words;

@@ -2,11 +2,14 @@
 use mathlib.Core.Path.{◌≡◌, refl, ap, sym, subst, ◌∙◌}
 use mathlib.Core.Bool.{Bool, true, false, cond, not, ◌&&◌, ◌||◌, and-false}
 use mathlib.Core.List.{List, [], ◌∷◌, ◌++◌}
-use Prim.Native.Nat.{ℕ, ◌+◌, ◌<◌, ◌≤◌}
+use Prim.Native.Nat.{ℕ, zero, suc, ◌+◌, ◌<◌, ◌≤◌}
 use native.Mathlib.Omega.{arith}
 use lib.Dec.{eqb}
 use lib.ListN.{length}
-use borrow.Author.Tests.{eqb-true, eqb-false}
+use native.Mathlib.Nat.{eq-or-lt_of_le}
+use mathlib.Core.Logic.{⊎_elim}
+use Rattle.std.specs.List.{list_all, range_with_len}
+use Rattle.names.proofs.Bools.{and_left, and_right}
 use Rattle.names.specs.Words.{words, rows_in, kind_at, attr_at}
 use Rattle.forest.proofs.Levels.{rows_no}
 use Rattle.grammar.specs.Kinds.{This, Super, Ident, Member, Computed, Call, Assign, Arrow, Function, Method, Property, Field, StaticBlock, Target}
@@ -172,25 +175,21 @@ module _ (N : Names) (w : Switches) where
       let e : emit_c N w [] (spot start free) (spot start free) 0 t ≡ t = quiet_rows t (spot start free) (spot start free) 0 stay (refl, refl) (refl, refl) (unfold made_c in h) in
       steps-same N w t ∙ rw (on, h, e)
 
--- The loop over the rows, where e says whether the mode is Enabled: none of those before i becomes a Function.
-pub record KeptArrows (e : Bool) (ws : List ℕ) (i : ℕ) : Type 0 where
-  pub before : (j : ℕ) → j < i → (eqb (kind_at ws j) Arrow && (e && not (bit 1 (attr_at ws j)))) ≡ false
+-- a row that stays as it is, where e says whether the mode is Enabled
+abbrev pub stays : (e : Bool) (ws : List ℕ) → ℕ → Bool
+stays e ws j = not (eqb (kind_at ws j) Arrow && (e && not (bit 1 (attr_at ws j))))
 
-pub none_before : (e : Bool) (ws : List ℕ) → KeptArrows e ws 0
-none_before e ws = record { before = λ j l. absurd (omega arith) }
+each_below : (t : ℕ → Bool) (a n j : ℕ) → list_all t (range_with_len a n) ≡ true → a ≤ j → j < a + n → t j ≡ true
+each_below t a zero j h x y = absurd (omega arith)
+each_below t a (suc n) j h x y =
+    ⊎_elim (λ q. ap t (sym q) ∙ and_left (t a) _ h) (λ l. each_below t (a + 1) n j (and_right (t a) _ h) (omega arith) (omega arith)) (eq-or-lt_of_le x)
 
-pub one_more-kept : (e : Bool) (ws : List ℕ) (i k a : ℕ) (b : Bool) → KeptArrows e ws i → k ≡ kind_at ws i → a ≡ attr_at ws i → b ≡ bit 1 a → (eqb k Arrow && (e && not b)) ≡ false → KeptArrows e ws (i + 1)
-one_more-kept e ws i k a b K qk qa qb h = record { before = λ j l. go j l (eqb j i) refl }
-  where
-    here : (eqb (kind_at ws i) Arrow && (e && not (bit 1 (attr_at ws i)))) ≡ false
-    here = rw (← qk, ← qa, ← qb) h
+none_true : (b : Bool) → not b ≡ true → b ≡ false
+none_true false h = refl
+none_true true h = absurd (cc)
 
-    go : (j : ℕ) → j < i + 1 → (t : Bool) → eqb j i ≡ t → (eqb (kind_at ws j) Arrow && (e && not (bit 1 (attr_at ws j)))) ≡ false
-    go j l true z = subst (λ (m : ℕ). (eqb (kind_at ws m) Arrow && (e && not (bit 1 (attr_at ws m)))) ≡ false) (sym (eqb-true j i z)) here
-    go j l false z = let n = eqb-false j i z in K.before j (omega arith)
-
-pub all_kept : (w : Switches) (e : Bool) (rows : List ℕ) (i : ℕ) → e ≡ enabled w → GivenRows rows (rows_in rows) → rows_in rows ≤ i → KeptArrows e (words rows) i → NoRow (becomes_function w) (table rows)
-all_kept w e rows i q g l K = rows_no (words rows) (rows_in rows) g.nested (becomes_function w) (λ j h. rw (← q) (K.before j (omega arith)))
+pub all_kept : (w : Switches) (e : Bool) (rows : List ℕ) → e ≡ enabled w → GivenRows rows (rows_in rows) → list_all (stays e (words rows)) (range_with_len 0 (rows_in rows)) ≡ true → NoRow (becomes_function w) (table rows)
+all_kept w e rows q g h = rows_no (words rows) (rows_in rows) g.nested (becomes_function w) (λ j l. rw (← q) (none_true _ (each_below (stays e (words rows)) 0 (rows_in rows) j h (omega arith) (omega arith))))
 
 -- an array without bindings
 pub none_made : (M : List ℕ) (cap : ℕ) {count : ℕ} {bs : List Binding} → Kept M cap bs count → count ≡ 0 → bs ≡ []

@@ -29,11 +29,9 @@ use Rattle.output.specs.Output.{Done, Copied}
 use Rattle.output.proofs.Writing.{named}
 use Rattle.output.proofs.Recording.{none-copied}
 use Rattle.bindings.specs.Store.{binds}
-use Rattle.bindings.specs.Post.{Kept}
 use Rattle.bindings.specs.Filed.{Filed, behind}
 use Rattle.bindings.proofs.Arrays.{binds-length}
 use Rattle.acts.specs.View.{switches_of}
-use Rattle.acts.specs.declared.switches.Switches.{Switches as Lent}
 use Rattle.plan.specs.Ranged.{Ranged}
 use Rattle.emit_plan.specs.Plans.{Holds, emitted}
 use Rattle.emit_plan.specs.declared.Walk.{Walk}
@@ -126,44 +124,38 @@ bindings_few w rows names text made cap S =
 pub counted-room : (room : ℕ) {f : Rows} {total : ℕ} {after : List ℕ} → Done [] 0 f total after → leb total room ≡ leb (size f) room
 counted-room room {f} {total} d = let q : total ≡ size f = omega (arith, d.next) in rw q
 
--- what the first walk leaves to the second
-pub collected : {s : Lent} {rows names text made M : List ℕ} {cap count : ℕ} → Ready (switches_of s) rows names text made cap
-    → Kept M cap (made_c (names_of names text) (switches_of s) (table rows)) count → Filed names text (behind cap M) cap (made_c (names_of names text) (switches_of s) (table rows)) → Collected rows names text M
-    (record { switches = s; cap = cap; count = count })
-collected S K F = record { accepted = S.accepted; on = S.on; kept = K; filed = F; low = S.low; fits = S.fits }
-
--- the array M with the bindings of the first walk, and what the second walk then writes
-module _ (rows names text M : List ℕ) (v : Walk) (C : Collected rows names text M v) where
+-- the array with the bindings of the first walk, and what the second walk then writes
+module _ (rows names text : List ℕ) (v : Walk) (C : Collected rows names text v) where
   -- the switches of the walk
   abbrev w : Switches
   w = switches_of v.switches
 
   -- the rows that it writes
   abbrev made-rows : Rows
-  made-rows = emitted rows names text M v
+  made-rows = emitted rows names text v
 
   -- they are those of the result
   rows_made : (steps (names_of names text) w (table rows)).rows ≡ made-rows
-  rows_made = rows_are w rows names text C.on (binds M v.cap v.count) C.kept.list
+  rows_made = rows_are w rows names text C.on (binds v.bindings.made.now v.bindings.cap v.bindings.count) C.kept.list
 
   -- the bindings of the array are those of the result
-  bindings_made : binds M v.cap v.count ≡ (steps (names_of names text) w (table rows)).bindings
+  bindings_made : binds v.bindings.made.now v.bindings.cap v.bindings.count ≡ (steps (names_of names text) w (table rows)).bindings
   bindings_made = C.kept.list ∙ sym (bindings_are w rows names text C.on)
 
   -- and so many
-  counted : v.count ≡ length (steps (names_of names text) w (table rows)).bindings
-  counted = sym (binds-length M v.cap 1 v.count) ∙ ap length bindings_made
+  counted : v.bindings.count ≡ length (steps (names_of names text) w (table rows)).bindings
+  counted = sym (binds-length v.bindings.made.now v.bindings.cap 1 v.bindings.count) ∙ ap length bindings_made
 
   -- with much room the rows fit, and need not be counted
-  pub much_room : (room : ℕ) → 8 * rows_in rows + 11 * v.count ≤ room → true ≡ leb (size made-rows) room
+  pub much_room : (room : ℕ) → 8 * rows_in rows + 11 * v.bindings.count ≤ room → true ≡ leb (size made-rows) room
   much_room room l = sym (le-leb (size made-rows) room (omega (arith, (result_within 16384 128 w rows names text C.accepted).rows-by, ap size rows_made, counted)))
 
   -- what the second walk asks of the table and of the array, and that no cursor wraps
-  pub walk_asks : (Ranged rows 0 (rows_in rows) × GivenNames names text) × (Holds names text M v (rows_in rows) × (size made-rows < 2 ^ 32))
+  pub walk_asks : (Ranged rows 0 (rows_in rows) × GivenNames names text) × (Holds names text v (rows_in rows) × (size made-rows < 2 ^ 32))
   walk_asks = (
     (given-range w rows names text C.accepted, given-names w rows names text C.accepted),
     (
-      record { store = C.kept.store; filed = subst (Filed names text (behind v.cap M) v.cap) (sym C.kept.list) C.filed; cap_low = C.low; rows_low = C.fits },
+      record { filed = subst (Filed names text (behind v.bindings.cap v.bindings.made.now) v.bindings.cap) (sym C.kept.list) C.filed; rows_low = C.fits },
       subst (λ (t : Rows). size t < 2 ^ 32) rows_made
           (result_small 16384 128 w rows names text C.accepted),
     ),
@@ -175,12 +167,12 @@ module _ (rows names text M : List ℕ) (v : Walk) (C : Collected rows names tex
     no-room-rows l = full-rows w rows names text out_rows out_bindings C.accepted (size made-rows) (sym (ap size rows_made)) (leb-false (size made-rows) (length out_rows / 16) l)
 
     -- too many bindings
-    pub no-room-bindings : length out_bindings / 12 < v.count → Answers (outcome_of w rows names text out_rows out_bindings) 9 0 0 0 out_rows out_rows out_bindings out_bindings
-    no-room-bindings l = full-bindings w rows names text out_rows out_bindings C.accepted v.count counted l
+    pub no-room-bindings : length out_bindings / 12 < v.bindings.count → Answers (outcome_of w rows names text out_rows out_bindings) 9 0 0 0 out_rows out_rows out_bindings out_bindings
+    no-room-bindings l = full-bindings w rows names text out_rows out_bindings C.accepted v.bindings.count counted l
 
     -- all of it is written
-    pub all-written : (out_rows' out_bindings' : List ℕ) (written recorded : ℕ) → Done out_rows 0 made-rows written out_rows' → Copied out_bindings 0 (binds M v.cap v.count) recorded out_bindings'
-        → leb (size made-rows) (length out_rows / 16) ≡ true → v.count ≤ length out_bindings / 12
+    pub all-written : (out_rows' out_bindings' : List ℕ) (written recorded : ℕ) → Done out_rows 0 made-rows written out_rows' → Copied out_bindings 0 (binds v.bindings.made.now v.bindings.cap v.bindings.count) recorded out_bindings'
+        → leb (size made-rows) (length out_rows / 16) ≡ true → v.bindings.count ≤ length out_bindings / 12
         → Answers (outcome_of w rows names text out_rows out_bindings) 0 0 written recorded out_rows out_rows' out_bindings out_bindings'
     all-written out_rows' out_bindings' written recorded d b l m =
         let n = leb-true (size made-rows) (length out_rows / 16) l in

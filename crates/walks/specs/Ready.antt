@@ -14,9 +14,8 @@ use Rattle.bindings.specs.Store.{Store}
 use Rattle.bindings.specs.Post.{Kept}
 use Rattle.bindings.specs.Filed.{Filed, behind}
 use Rattle.emit_plan.specs.declared.Walk.{Walk}
-use Rattle.answer.specs.Answer.{number_of, place_of, rows_of, bindings_of}
+use Rattle.answer.specs.Answer.{Answer, number_of, place_of, rows_of, bindings_of}
 use Rattle.answer.specs.Converting.{outcome_of, Answers}
-use Rattle.answer.specs.declared.Converted.{Converted}
 
 -- an Arrow that module 6 makes a Function
 abbrev pub becomes_function : Switches → (k a : ℕ) → Bool
@@ -35,16 +34,15 @@ pub record Ready (w : Switches) (rows names text made : List ℕ) (cap : ℕ) : 
   pub low : cap ≤ 16384
   pub fits : rows_in rows ≤ cap
 
--- what the second walk is made over: such a table, and the array M that the first walk made, with its bindings
-pub record Collected (rows names text M : List ℕ) (v : Walk) : Type 0 where
+-- what the second walk is made over: such a table, and the array that the first walk made, with its bindings
+pub record Collected (rows names text : List ℕ) (v : Walk) : Type 0 where
   pub accepted : Accepted 16384 128 (switches_of v.switches) rows names text
   pub on : (enabled (switches_of v.switches) || async_only (switches_of v.switches)) ≡ true
-  pub kept : Kept M v.cap (made_c (names_of names text) (switches_of v.switches) (table rows)) v.count
-  pub filed : Filed names text (behind v.cap M) v.cap (made_c (names_of names text) (switches_of v.switches) (table rows))
-  pub low : v.cap ≤ 16384
-  pub fits : rows_in rows ≤ v.cap
+  pub kept : Kept v.bindings.made.now v.bindings.cap (made_c (names_of names text) (switches_of v.switches) (table rows)) v.bindings.count
+  pub filed : Filed names text (behind v.bindings.cap v.bindings.made.now) v.bindings.cap (made_c (names_of names text) (switches_of v.switches) (table rows))
+  pub fits : rows_in rows ≤ v.bindings.cap
 
 -- what the functions below `convert` promise of their answer, and of the two slices before and after
-abbrev pub Gives : Switches → (rows names text : List ℕ) → Converted → (out_rows out_rows' out_bindings out_bindings' : List ℕ) → Type 0
+abbrev pub Gives : Switches → (rows names text : List ℕ) → Answer → (out_rows out_rows' out_bindings out_bindings' : List ℕ) → Type 0
 Gives w rows names text r out_rows out_rows' out_bindings out_bindings' =
     Answers (outcome_of w rows names text out_rows out_bindings) (number_of r) (place_of r) (rows_of r) (bindings_of r) out_rows out_rows' out_bindings out_bindings'

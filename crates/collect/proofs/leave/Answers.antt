@@ -12,19 +12,21 @@ use Rattle.collect.proofs.Meeting.{leave_none, leave-some}
 use native.Mathlib.Omega.{arith}
 use Rattle.collect.proofs.leave.Goals as goal
 
-pub returns-then-not-is_called-context : goal.returns-then-not-is_called-context
-returns-then-not-is_called-context c =
+pub returns-else-is_called-context : goal.returns-else-is_called-context
+returns-else-is_called-context c =
     record {
+      same_reference = refl;
+      cap_value = refl;
       kept = record {
         store = c.requires.store;
         list = sym (leave_none (context_of c.args.context) (op_of c.args.op)
-            (binds c.args.made.now c.args.cap c.args.count) c.is_called.result c.is_called.ensures (ap not c.if-not-is_called-context.true));
+            (binds c.args.maker.now.made.now c.args.maker.now.cap c.args.maker.now.count) c.is_called.result c.is_called.ensures (ap not c.if-is_called-context.false));
       };
       made_unchanged = refl;
     }
 
-pub capture-kept-requires : goal.capture-kept-requires
-capture-kept-requires c =
+pub capture-requires : goal.capture-requires
+capture-requires c =
     record {
       u_nonzero = (omega arith, omega arith);
       asked = record {
@@ -32,18 +34,20 @@ capture-kept-requires c =
         row_low = c.requires.row_low;
         cap_low = c.requires.cap_low;
         room = subst (λ
-            (l : List Binding). length l < c.args.cap) (leave-some (context_of c.args.context) (op_of c.args.op)
-            (binds c.args.made.now c.args.cap c.args.count) c.is_called.result c.is_called.ensures (ap not c.if-not-is_called-context.false)) c.requires.room;
+            (l : List Binding). length l < c.args.maker.now.cap) (leave-some (context_of c.args.context) (op_of c.args.op)
+            (binds c.args.maker.now.made.now c.args.maker.now.cap c.args.maker.now.count) c.is_called.result c.is_called.ensures (ap not c.if-is_called-context.true)) c.requires.room;
       };
     }
 
-pub returns : goal.returns
-returns c =
+pub returns-then-is_called-context : goal.returns-then-is_called-context
+returns-then-is_called-context c =
     record {
+      same_reference = c.capture.ensures.same_reference;
+      cap_value = c.capture.ensures.cap_value;
       kept = record {
-        store = c.capture-kept.ensures.kept.store;
-        list = c.capture-kept.ensures.kept.list ∙ sym (leave-some (context_of c.args.context)
-            (op_of c.args.op) (binds c.args.made.now c.args.cap c.args.count) c.is_called.result c.is_called.ensures (ap not c.if-not-is_called-context.false));
+        store = c.capture.ensures.kept.store;
+        list = c.capture.ensures.kept.list ∙ sym (leave-some (context_of c.args.context)
+            (op_of c.args.op) (binds c.args.maker.now.made.now c.args.maker.now.cap c.args.maker.now.count) c.is_called.result c.is_called.ensures (ap not c.if-is_called-context.true));
       };
-      made_unchanged = c.capture-kept.ensures.made_unchanged;
+      made_unchanged = c.capture.ensures.made_unchanged;
     }

@@ -1,5 +1,13 @@
 -- `collect::make_bindings` meets its contract. Assumes nothing.
+use mathlib.Core.Path.{subst}
+use mathlib.Core.List.{List}
+use Prim.Native.Nat.{ℕ}
+use borrow.Author.Rules.{rules}
+use Rattle.forest.specs.Forest.{table}
 use Rattle.steps.specs.Outcome.{names_of}
+use Rattle.steps.specs.Context.{made_c}
+use Rattle.bindings.specs.Post.{Kept}
+use Rattle.bindings.specs.Filed.{Filed, behind}
 use Rattle.acts.specs.View.{switches_of}
 use Rattle.collect.proofs.Starting.{no_binds, program_collects, program_kept, program_filed}
 use Rattle.collect.proofs.make_bindings.Goals as goal
@@ -13,7 +21,11 @@ collect-requires c = record {
 }
 
 pub returns : goal.returns
-returns c = record {
-  kept = program_kept (names_of c.args.names.now c.args.text.now) (switches_of c.args.switches) c.args.rows.now c.requires.starts c.program-start.ensures c.collect.ensures.kept;
-  filed_2 = program_filed (names_of c.args.names.now c.args.text.now) (switches_of c.args.switches) c.args.rows.now c.requires.starts c.program-start.ensures c.collect.ensures.filed_2;
-}
+returns c =
+    let whole = made_c (names_of c.args.names.now c.args.text.now) (switches_of c.args.switches) (table c.args.rows.now) in
+    let kept = program_kept (names_of c.args.names.now c.args.text.now) (switches_of c.args.switches) c.args.rows.now c.requires.starts c.program-start.ensures c.collect.ensures.kept in
+    let filed = program_filed (names_of c.args.names.now c.args.text.now) (switches_of c.args.switches) c.args.rows.now c.requires.starts c.program-start.ensures c.collect.ensures.filed_2 in
+    record {
+      kept = subst (λ (l : List ℕ). Kept l c.args.cap whole c.collect.new.maker.count) (search rules) kept;
+      filed_2 = subst (λ (l : List ℕ). Filed c.args.names.now c.args.text.now (behind c.args.cap l) c.args.cap whole) (search rules) filed;
+    }

@@ -2,8 +2,8 @@
 use Rattle.convert.proofs.Long.{told_form, told-fault}
 use Rattle.convert.proofs.answer_long.Goals as goal
 
-pub returns-then-line-eq0 : goal.returns-then-line-eq0
-returns-then-line-eq0 c = told_form c.faulty_line-line.ensures.0 c.if-line-eq0.true c.turn_away.ensures
+pub returns-in-Ok : goal.returns-in-Ok
+returns-in-Ok c = told_form _ c.in-Ok.ensures c.turn_away.ensures
 
-pub returns : goal.returns
-returns c = told-fault c.faulty_line-line.ensures.0 c.if-line-eq0.false c.turn_away-2.ensures
+pub returns-in-Err : goal.returns-in-Err
+returns-in-Err c = let e = c.in-Err.ensures in told-fault _ _ e.0 e.1 c.turn_away-in-Err.ensures

@@ -1,9 +1,6 @@
-use Rattle.std.proofs.Common.{◌-◌}
+-- `convert::answer_pieces` meets its contract. Assumes nothing.
 use Rattle.convert.proofs.Long.{Going}
 use Rattle.convert.proofs.answer_pieces.Given as goal
 
-abbrev pub invariant-loop-pieces : goal.invariant-loop-pieces
-invariant-loop-pieces g l = Going l.initial.input l.initial.out l.input l.out l.front l.form l.pieces
-
-abbrev pub decreases-loop-pieces : goal.decreases-loop-pieces
-decreases-loop-pieces g l = 32767 - l.pieces
+abbrev pub invariant-loop-piece : goal.invariant-loop-piece
+invariant-loop-piece g l = Going l.initial.input l.initial.out l.input l.out l.form l._piece

@@ -1,35 +1,33 @@
 -- `converter::convert` meets its contract. Assumes nothing.
-use mathlib.Core.Path.{sym, ◌∙◌}
+use mathlib.Core.Path.{sym}
 use Rattle.acts.specs.View.{switches_of}
 use Rattle.refusals.proofs.Giving.{given}
-use Rattle.answer.proofs.Answering.{sound-zero, passes, unsound, turned}
+use Rattle.refusals.proofs.Turning.{accepted}
+use Rattle.answer.proofs.Answering.{unsound_as, turned_as}
 use Rattle.answer.proofs.Callers.{checked_as, accepted_either, answers_either}
 use Rattle.answer.proofs.Owning.{promised}
 use Rattle.converter.proofs.convert.Goals as goal
 
-pub returns-then-number-ne0 : goal.returns-then-number-ne0
-returns-then-number-ne0 c =
-    let q = checked_as c.args.tablet _ _ _ _ _ _ c.limits_for-limits.ensures.0 c.limits_for-limits.ensures.1 c.check-checked.ensures in
-    promised _ _ _ _ _ _ _ _ _ _ _ _ _ (unsound _ _ _ _ _ _ _ _ _ q (λ z. c.if-number-ne0.true (c.number.ensures ∙ z)))
+pub returns-in_err-check : goal.returns-in_err-check
+returns-in_err-check c =
+    let q = checked_as c.args.tablet _ _ _ _ _ _ c.limits_for-limits.ensures.0 c.limits_for-limits.ensures.1 c.in_err-check.ensures in
+    promised _ _ _ _ _ _ _ _ _ _ _ _ _ (unsound_as _ _ _ _ _ _ _ _ _ q c.from_residual.result c.from_residual.ensures.1)
 
-pub refusal-refused-requires : goal.refusal-refused-requires
-refusal-refused-requires c = given _ _ _ _ _ (sym c.check-checked.ensures ∙ sound-zero _ (sym c.number.ensures ∙ c.if-number-ne0.false))
+pub refusal-requires : goal.refusal-requires
+refusal-requires c = given _ _ _ _ _ (sym c.in_ok-check.ensures)
 
-pub returns-then-number-ne0-2 : goal.returns-then-number-ne0-2
-returns-then-number-ne0-2 c =
-    let q = checked_as c.args.tablet _ _ _ _ _ _ c.limits_for-limits.ensures.0 c.limits_for-limits.ensures.1 c.check-checked.ensures in
+pub returns-in_err-refusal : goal.returns-in_err-refusal
+returns-in_err-refusal c =
+    let q = checked_as c.args.tablet _ _ _ _ _ _ c.limits_for-limits.ensures.0 c.limits_for-limits.ensures.1 c.in_ok-check.ensures in
     promised _ _ _ _ _ _ _ _ _ _ _ _ _
-    (turned _ _ _ _ _ _ _ _ (sym q ∙ sound-zero _ (sym c.number.ensures ∙ c.if-number-ne0.false)) _
-    (c.refusal-refused.ensures (switches_of c.args.switches) c.new-converter.ensures.0) (λ z. c.if-number-ne0-2.true (c.number-2.ensures ∙ z)))
+    (turned_as _ _ _ _ _ _ _ _ (sym q) _ (c.in_err-refusal.ensures (switches_of c.args.switches) c.new-converter.ensures.0) c.from_residual-in_err-refusal.result c.from_residual-in_err-refusal.ensures.1)
 
 pub result-requires : goal.result-requires
 result-requires c =
-    let q = checked_as c.args.tablet _ _ _ _ _ _ c.limits_for-limits.ensures.0 c.limits_for-limits.ensures.1 c.check-checked.ensures in
-    accepted_either c.args.tablet _ _ _ _
-    (passes _ _ _ _ _ _ _ _ _ _ q c.number.ensures c.if-number-ne0.false (c.refusal-refused.ensures (switches_of c.args.switches) c.new-converter.ensures.0) c.number-2.ensures c.if-number-ne0-2.false)
+    let q = checked_as c.args.tablet _ _ _ _ _ _ c.limits_for-limits.ensures.0 c.limits_for-limits.ensures.1 c.in_ok-check.ensures in
+    accepted_either c.args.tablet _ _ _ _ (accepted _ _ _ _ _ _ (sym q) (sym (c.in_ok-refusal.ensures (switches_of c.args.switches) c.new-converter.ensures.0)))
 
 pub returns : goal.returns
 returns c =
-    let q = checked_as c.args.tablet _ _ _ _ _ _ c.limits_for-limits.ensures.0 c.limits_for-limits.ensures.1 c.check-checked.ensures in
-    promised _ _ _ _ _ _ _ _ _ _ _ _ _
-    (answers_either c.args.tablet _ _ _ _ (sym q ∙ sound-zero _ (sym c.number.ensures ∙ c.if-number-ne0.false)) _ _ _ _ _ _ _ _ c.result.ensures)
+    let q = checked_as c.args.tablet _ _ _ _ _ _ c.limits_for-limits.ensures.0 c.limits_for-limits.ensures.1 c.in_ok-check.ensures in
+    promised _ _ _ _ _ _ _ _ _ _ _ _ _ (answers_either c.args.tablet _ _ _ _ (sym q) _ _ _ _ _ _ _ _ c.result.ensures)

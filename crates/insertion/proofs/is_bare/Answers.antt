@@ -2,4 +2,4 @@
 use Rattle.insertion.proofs.is_bare.Goals as goal
 
 pub returns : goal.returns
-returns c = rw (c.entry-this.ensures, c.entry-arguments.ensures, c.entry-accessor.ensures)
+returns c = rw (c.this_of.ensures, c.arguments_of.ensures, c.first_accessor.ensures)

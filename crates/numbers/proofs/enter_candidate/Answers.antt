@@ -12,7 +12,7 @@ use Rattle.numbers.proofs.enter_candidate.Goals as goal
 
 pub put_candidate-end-requires : goal.put_candidate-end-requires
 put_candidate-end-requires c = record {
-  text_value = (c.requires.sound.front, sound-at _ _ _ c.requires.sound c.args.b c.requires.b_nonzero.0 c.requires.b_nonzero.1);
+  text_value = (c.args.checked.sound.front, sound-at _ _ _ c.args.checked.sound c.args.b c.requires.b_nonzero.0 c.requires.b_nonzero.1);
   at_bound = omega arith;
 }
 

@@ -11,7 +11,7 @@ enter_name-requires c =
     let n = c.loop-k.invariant in
     let P = c.requires.lasts_nonzero in
     record {
-      given_names = (c.requires.given_names, (omega arith, omega arith));
+      k_in_names = (omega arith, omega arith);
       lasts_nonzero = (omega (arith, n.same_lasts, P.0), (omega (arith, n.same_befores, P.1.0), omega (arith, P.1.1)));
     }
 

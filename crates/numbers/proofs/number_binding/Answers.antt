@@ -8,8 +8,6 @@ pub choose-n-requires : goal.choose-n-requires
 choose-n-requires c =
     let N = c.requires.numbering in
     record {
-      sound = c.requires.sound;
-      stored = N.stored;
       b_nonzero = (c.requires.b_nonzero.0, c.requires.b_nonzero.1);
       count_in_bounds = (omega (arith, N.stored.few, N.reached_long), N.kept);
     }
@@ -21,9 +19,8 @@ pub enter_candidate-requires : goal.enter_candidate-requires
 enter_candidate-requires c =
     let N = c.requires.numbering in
     let r = c.requires.b_nonzero in
-    let l = few-entries c.requires.sound _ N.stored.few in
+    let l = few-entries c.args.checked.sound _ N.stored.few in
     record {
-      sound = c.requires.sound;
       b_nonzero = (r.0, r.1);
       lasts_nonzero = (N.stored.some, (omega (arith, N.stored.befores_long, r.1, r.2), omega arith));
     }

@@ -1,35 +1,30 @@
 -- `parser::read_rows` meets its contract. Assumes nothing.
-use mathlib.Core.Path.{refl, sym, ◌∙◌}
+use mathlib.Core.Path.{sym, ◌∙◌}
 use native.Mathlib.Omega.{arith}
-use Rattle.fields.proofs.Splitting.{line-next, line_first, next_ahead}
 use Rattle.parser.proofs.Reading.{turn-start, turn_end, turn-fault, turn-full, turn-next}
+use Rattle.parser.proofs.Sheets.{handed, or_none, or_some}
 use Rattle.parser.proofs.read_rows.Goals as goal
 
-pub loop-p-init : goal.loop-p-init
-loop-p-init c = turn-start _ _ _ _ (omega arith)
+pub loop-text-init : goal.loop-text-init
+loop-text-init c = turn-start _ _ _
 
-pub shape_of-rows-in_default : goal.shape_of-rows-in_default
-shape_of-rows-in_default c = c.loop-p.invariant.long
+pub overflow_add-fault : goal.overflow_add-fault
+overflow_add-fault c = omega (arith, c.loop-text.invariant.left)
 
-pub returns-in_default : goal.returns-in_default
-returns-in_default c = turn-fault _ _ _ _ _ _ _ c.loop-p.invariant _ _ (line_first _ _ _ c.find-e.ensures c.loop-p-test.true) (sym c.row_at-row.ensures ∙ c.in_default.is)
-
-pub shape_of-rows-then-n-ge-MOST_ROWS : goal.shape_of-rows-then-n-ge-MOST_ROWS
-shape_of-rows-then-n-ge-MOST_ROWS c = c.loop-p.invariant.long
+pub returns-in_err-row : goal.returns-in_err-row
+returns-in_err-row c =
+    let e = or_none c.read_row.result (sym c.ok_or.ensures.value ∙ c.in_err-row.was) in
+    rw (handed _ _ c.from_residual.ensures.1, e.1) (turn-fault c.loop-text.invariant c.in-Some.ensures (e.0 ∙ c.read_row.ensures))
 
 pub returns-then-n-ge-MOST_ROWS : goal.returns-then-n-ge-MOST_ROWS
-returns-then-n-ge-MOST_ROWS c = turn-full _ _ _ _ _ _ _ c.loop-p.invariant _ _ (line_first _ _ _ c.find-e.ensures c.loop-p-test.true) (sym c.row_at-row.ensures ∙ c.in-Words.is) c.if-n-ge-MOST_ROWS.true
+returns-then-n-ge-MOST_ROWS c =
+    let x = or_some c.read_row.result _ (sym c.ok_or.ensures.value ∙ c.in_ok-row.was) in
+    turn-full c.loop-text.invariant c.in-Some.ensures _ (x ∙ c.read_row.ensures) c.if-n-ge-MOST_ROWS.true
 
-pub loop-p-smaller : goal.loop-p-smaller
-loop-p-smaller c = omega (arith, next_ahead c.args.s.now _ _ _ c.find-e.ensures c.loop-p-test.true c.next_line-p.ensures)
-
-pub loop-p-preserved : goal.loop-p-preserved
-loop-p-preserved c =
-    turn-next _ _ _ _ _ _ _ c.loop-p.invariant _ _ (line-next _ _ _ _ c.find-e.ensures c.loop-p-test.true c.next_line-p.ensures) _ _ _ _ _ _ refl c.next_line-p.ensures.inside
-    (sym c.row_at-row.ensures ∙ c.in-Words.is) c.if-n-ge-MOST_ROWS.false c.put_row.ensures c.put_row.auto.out
-
-pub shape_of-rows : goal.shape_of-rows
-shape_of-rows c = c.loop-p.invariant.long
+pub loop-text-preserved : goal.loop-text-preserved
+loop-text-preserved c =
+    let x = or_some c.read_row.result _ (sym c.ok_or.ensures.value ∙ c.in_ok-row.was) in
+    turn-next c.loop-text.invariant c.in-Some.ensures _ (x ∙ c.read_row.ensures) _ c.if-n-ge-MOST_ROWS.false c.put_row.ensures c.put_row.auto.out
 
 pub returns : goal.returns
-returns c = turn_end _ _ _ _ _ _ _ c.loop-p.invariant c.loop-p-test.false
+returns c = turn_end c.loop-text.invariant c.in_default.ensures

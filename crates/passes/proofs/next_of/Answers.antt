@@ -1,16 +1,16 @@
 -- `passes::next_of` meets its contract. Assumes nothing.
-use borrow.Author.Tests.{ne_eqb}
 use Rattle.steps.specs.Fused.{next_of}
+use Rattle.passes.proofs.Numbers.{not_state}
 use Rattle.passes.proofs.next_of.Goals as goal
 
-pub returns-then-sc-eq-HERITAGE : goal.returns-then-sc-eq-HERITAGE
+pub returns-in_default : goal.returns-in_default
 unfolding next_of
-returns-then-sc-eq-HERITAGE c = rw c.if-sc-eq-HERITAGE.true
+returns-in_default c =
+    let o = c.in_default in
+    rw (not_state _ _ o.not-Heritage, not_state _ _ o.not-Once, not_state _ _ o.not-Direct, c.if-first.true)
 
-pub returns-then-sc-first : goal.returns-then-sc-first
+pub returns-in_default-2 : goal.returns-in_default-2
 unfolding next_of
-returns-then-sc-first c = rw (ne_eqb _ _ c.if-sc-eq-HERITAGE.false, c.if-sc-first.true)
-
-pub returns : goal.returns
-unfolding next_of
-returns c = rw (ne_eqb _ _ c.if-sc-eq-HERITAGE.false, c.if-sc-first.false)
+returns-in_default-2 c =
+    let o = c.in_default in
+    rw (not_state _ _ o.not-Heritage, not_state _ _ o.not-Once, not_state _ _ o.not-Direct, c.if-first.false)

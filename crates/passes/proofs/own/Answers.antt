@@ -1,12 +1,12 @@
 -- `passes::own` meets its contract. Assumes nothing.
-use borrow.Author.Tests.{ne_eqb}
 use Rattle.steps.specs.Fused.{own}
+use Rattle.passes.proofs.Numbers.{not_slot}
 use Rattle.passes.proofs.own.Goals as goal
 
-pub returns-then-slot-eq-WRAPPED : goal.returns-then-slot-eq-WRAPPED
+pub returns-in-Wrapped : goal.returns-in-Wrapped
 unfolding own
-returns-then-slot-eq-WRAPPED c = rw (c.if-slot-eq-WRAPPED.true, c.within.ensures)
+returns-in-Wrapped c = rw (c.in-Wrapped.is, c.within.ensures)
 
-pub returns : goal.returns
+pub returns-in_default : goal.returns-in_default
 unfolding own
-returns c = rw (ne_eqb _ _ c.if-slot-eq-WRAPPED.false)
+returns-in_default c = rw (not_slot _ _ c.in_default.not-Wrapped)

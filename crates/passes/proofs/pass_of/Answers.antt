@@ -9,6 +9,10 @@ use Rattle.steps.specs.Bindings.{closes}
 use Rattle.steps.specs.AfterSuper.{copy}
 use Rattle.steps.specs.Fused.{met_of, direct_of, within, own, scan_of, next_of, anew, pass_of}
 use Rattle.steps.proofs.Credit.{eqb-eq}
+use Rattle.passes.specs.declared.slots.Slot.TheVariants.{LateBody}
+use Rattle.passes.specs.declared.states.State.TheVariants.{Copy}
+use Rattle.passes.specs.View.{slot_number, state_number}
+use Rattle.passes.proofs.Numbers.{slot_told, state_told}
 use Rattle.passes.proofs.pass_of.Goals as goal
 
 both : (x y : Bool) → (x && y) ≡ true → (x ≡ true) × (y ≡ true)
@@ -69,12 +73,12 @@ anew-copy : (sl k m : ℕ) → eqb sl late_body ≡ false → anew sl k m ≡ fa
 unfolding anew
 anew-copy sl k m e = rw e (nor (closes sl k))
 
-pub returns-then-sc-slot : goal.returns-then-sc-slot
+pub returns-then-eq : goal.returns-then-eq
 unfolding pass_of
-returns-then-sc-slot c =
-    let t = both _ _ c.if-sc-slot.true in
-    let s : c.args.sc ≡ copy = eqb-eq _ _ t.0 in
-    let a = anew-copy c.args.slot c.args.kind c.args.m (unnot _ t.1) in
+returns-then-eq c =
+    let t = both _ _ c.if-eq.true in
+    let s : state_number c.args.state ≡ copy = eqb-eq _ _ (state_told _ Copy c.eq.ensures t.0) in
+    let a = anew-copy (slot_number c.args.slot) c.args.kind c.args.m (slot_told _ LateBody c.eq-2.ensures (unnot _ t.1)) in
     record {
       met = rw (s, own-copy, met-copy);
       first = rw (s, own-copy, direct-copy);
@@ -83,24 +87,24 @@ returns-then-sc-slot c =
       bind = rw a;
     }
 
-pub returns-then-fresh : goal.returns-then-fresh
+pub returns-then-anew : goal.returns-then-anew
 unfolding pass_of
-returns-then-fresh c =
+returns-then-anew c =
     record {
-      met = rw (c.met_of-met.ensures, c.own-state.ensures);
-      first = rw (c.direct_of-first.ensures, c.own-state.ensures);
-      scan = rw (← c.anew-fresh.ensures, c.if-fresh.true);
-      next = rw (c.next_of-next.ensures, c.direct_of-first.ensures, c.own-state.ensures);
-      bind = rw (← c.anew-fresh.ensures, c.if-fresh.true);
+      met = rw (c.met_of-met.ensures, c.own-here.ensures);
+      first = rw (c.direct_of-first.ensures, c.own-here.ensures);
+      scan = rw (← c.anew.ensures, c.if-anew.true);
+      next = rw (c.next_of-next.ensures, c.direct_of-first.ensures, c.own-here.ensures);
+      bind = rw (← c.anew.ensures, c.if-anew.true);
     }
 
 pub returns : goal.returns
 unfolding pass_of
 returns c =
     record {
-      met = rw (c.met_of-met.ensures, c.own-state.ensures);
-      first = rw (c.direct_of-first.ensures, c.own-state.ensures);
-      scan = rw (← c.anew-fresh.ensures, c.if-fresh.false, c.scan_of-scan.ensures, c.met_of-met.ensures, c.direct_of-first.ensures, c.own-state.ensures);
-      next = rw (c.next_of-next.ensures, c.direct_of-first.ensures, c.own-state.ensures);
-      bind = rw (← c.anew-fresh.ensures, c.if-fresh.false);
+      met = rw (c.met_of-met.ensures, c.own-here.ensures);
+      first = rw (c.direct_of-first.ensures, c.own-here.ensures);
+      scan = rw (← c.anew.ensures, c.if-anew.false, c.scan_of.ensures, c.met_of-met.ensures, c.direct_of-first.ensures, c.own-here.ensures);
+      next = rw (c.next_of-next.ensures, c.direct_of-first.ensures, c.own-here.ensures);
+      bind = rw (← c.anew.ensures, c.if-anew.false);
     }

@@ -1,46 +1,46 @@
 -- `passes::scan_row` meets its contract. Assumes nothing.
-use borrow.Author.Tests.{ne_eqb}
+use mathlib.Core.Path.{◌∙◌}
 use Rattle.steps.specs.Fused.{scan_of}
+use Rattle.passes.specs.declared.states.State.TheVariants.{Copy, Direct, Members}
+use Rattle.passes.proofs.Numbers.{state_same}
 use Rattle.passes.proofs.scan_row.Goals as goal
 
-pub returns-then-sc-met : goal.returns-then-sc-met
+pub returns-then-eq-met : goal.returns-then-eq-met
 unfolding scan_of
-returns-then-sc-met c = rw c.if-sc-met.true
+returns-then-eq-met c = rw (← (c.eq.ensures ∙ state_same c.args.state Copy), c.if-eq-met.true)
 
-pub returns-then-sc-eq-DIRECT : goal.returns-then-sc-eq-DIRECT
+pub returns-then-eq : goal.returns-then-eq
 unfolding scan_of
-returns-then-sc-eq-DIRECT c = rw (c.if-sc-met.false, c.if-sc-eq-DIRECT.true)
+returns-then-eq c = rw (← (c.eq.ensures ∙ state_same c.args.state Copy), c.if-eq-met.false, ← (c.eq-2.ensures ∙ state_same c.args.state Direct), c.if-eq.true)
 
 pub returns-then-first : goal.returns-then-first
 unfolding scan_of
-returns-then-first c = rw (c.if-sc-met.false, ne_eqb _ _ c.if-sc-eq-DIRECT.false, c.if-first.true)
+returns-then-first c = rw (← (c.eq.ensures ∙ state_same c.args.state Copy), c.if-eq-met.false, ← (c.eq-2.ensures ∙ state_same c.args.state Direct), c.if-eq.false, c.if-first.true)
 
-pub returns-then-kind-set : goal.returns-then-kind-set
+pub returns-then-eq-2 : goal.returns-then-eq-2
 unfolding scan_of
-returns-then-kind-set c = rw (c.if-sc-met.false, ne_eqb _ _ c.if-sc-eq-DIRECT.false, c.if-first.false, c.if-sc-eq-MEMBERS.true, ← c.low_bit-set.ensures, c.if-kind-set.true)
-
-pub returns-then-sc-eq-MEMBERS : goal.returns-then-sc-eq-MEMBERS
-unfolding scan_of
-returns-then-sc-eq-MEMBERS c = rw (c.if-sc-met.false, ne_eqb _ _ c.if-sc-eq-DIRECT.false, c.if-first.false, c.if-sc-eq-MEMBERS.true, ← c.low_bit-set.ensures, c.if-kind-set.false)
-
-pub returns-then-kind : goal.returns-then-kind
-unfolding scan_of
-returns-then-kind c = rw (c.if-sc-met.false, ne_eqb _ _ c.if-sc-eq-DIRECT.false, c.if-first.false, ne_eqb _ _ c.if-sc-eq-MEMBERS.false, c.if-kind.true)
-
-pub returns-then-kind-2 : goal.returns-then-kind-2
-unfolding scan_of
-returns-then-kind-2 c = rw (c.if-sc-met.false, ne_eqb _ _ c.if-sc-eq-DIRECT.false, c.if-first.false, ne_eqb _ _ c.if-sc-eq-MEMBERS.false, c.if-kind.false, c.if-kind-2.true)
-
-pub returns-then-set : goal.returns-then-set
-unfolding scan_of
-returns-then-set c =
-    rw (c.if-sc-met.false, ne_eqb _ _ c.if-sc-eq-DIRECT.false, c.if-first.false, ne_eqb _ _ c.if-sc-eq-MEMBERS.false, c.if-kind.false, c.if-kind-2.false, c.if-kind-eq-CLASS.true, ← c.low_bit-set.ensures, c.if-set.true)
-
-pub returns-then-kind-eq-CLASS : goal.returns-then-kind-eq-CLASS
-unfolding scan_of
-returns-then-kind-eq-CLASS c =
-    rw (c.if-sc-met.false, ne_eqb _ _ c.if-sc-eq-DIRECT.false, c.if-first.false, ne_eqb _ _ c.if-sc-eq-MEMBERS.false, c.if-kind.false, c.if-kind-2.false, c.if-kind-eq-CLASS.true, ← c.low_bit-set.ensures, c.if-set.false)
+returns-then-eq-2 c =
+    rw (
+      ← (c.eq.ensures ∙ state_same c.args.state Copy),
+      c.if-eq-met.false,
+      ← (c.eq-2.ensures ∙ state_same c.args.state Direct),
+      c.if-eq.false,
+      c.if-first.false,
+      ← (c.eq-3.ensures ∙ state_same c.args.state Members),
+      c.if-eq-2.true,
+      ← c.low_bit-set.ensures,
+    ) c.scan_member.ensures
 
 pub returns : goal.returns
 unfolding scan_of
-returns c = rw (c.if-sc-met.false, ne_eqb _ _ c.if-sc-eq-DIRECT.false, c.if-first.false, ne_eqb _ _ c.if-sc-eq-MEMBERS.false, c.if-kind.false, c.if-kind-2.false, ne_eqb _ _ c.if-kind-eq-CLASS.false)
+returns c =
+    rw (
+      ← (c.eq.ensures ∙ state_same c.args.state Copy),
+      c.if-eq-met.false,
+      ← (c.eq-2.ensures ∙ state_same c.args.state Direct),
+      c.if-eq.false,
+      c.if-first.false,
+      ← (c.eq-3.ensures ∙ state_same c.args.state Members),
+      c.if-eq-2.false,
+      ← c.low_bit-set.ensures,
+    ) c.scan_kind.ensures

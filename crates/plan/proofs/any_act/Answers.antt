@@ -3,6 +3,7 @@ use Rattle.names.specs.Words.{words}
 use Rattle.steps.specs.Outcome.{names_of}
 use Rattle.steps.specs.Naming.{named_arguments}
 use Rattle.below.specs.Below.{children}
+use Rattle.passes.specs.View.{slot_number}
 use Rattle.acts.specs.View.{switches_of, context_of}
 use Rattle.plan.proofs.Frames.{placeable, handed}
 use Rattle.plan.proofs.Taking.{takes_at}
@@ -15,7 +16,7 @@ hand_on-requires c =
     let a = c.args in
     let ns = names_of a.names.now a.text.now in
     let ws = words a.rows.now in
-    placeable ns (switches_of a.switches) a.late (context_of c.spot-spot.result.context) c.spot-spot.result.slot a.i a.row.kind a.row.attr a.row.name (children ws a.i)
+    placeable ns (switches_of a.switches) a.late (context_of c.spot-spot.result.context) (slot_number c.spot-spot.result.slot) a.i a.row.kind a.row.attr a.row.name (children ws a.i)
     (c.decide.ensures ns (children ws a.i) c.look-below.ensures c.named_arguments-arguments.ensures) (let r = c.requires.at.row in let f = c.requires.at.few in omega arith) c.spot-spot.ensures.frames_below
 
 pub returns : goal.returns
@@ -26,5 +27,5 @@ returns c =
     let ns = names_of a.names.now a.text.now in
     let ws = words a.rows.now in
     takes_at ns w a.late a.i a.row.kind a.row.attr a.row.name (children ws a.i) c.spot-spot.ensures.result_value
-    (handed ns w a.late (context_of c.spot-spot.result.context) c.spot-spot.result.slot a.i a.row.kind a.row.attr a.row.name (children ws a.i)
+    (handed ns w a.late (context_of c.spot-spot.result.context) (slot_number c.spot-spot.result.slot) a.i a.row.kind a.row.attr a.row.name (children ws a.i)
     (c.decide.ensures ns (children ws a.i) c.look-below.ensures c.named_arguments-arguments.ensures) c.hand_on.ensures)

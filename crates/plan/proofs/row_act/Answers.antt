@@ -7,8 +7,8 @@ use Rattle.plan.specs.Placing.{place_of}
 use Rattle.plan.proofs.Taking.{takes_of}
 use Rattle.plan.proofs.row_act.Goals as goal
 
-pub returns-then-kind-eq-THIS : goal.returns-then-kind-eq-THIS
-returns-then-kind-eq-THIS c =
+pub returns-in-9 : goal.returns-in-9
+returns-in-9 c =
     let a = c.args in
     let w = switches_of a.switches in
     let ns = names_of a.names.now a.text.now in
@@ -18,8 +18,8 @@ returns-then-kind-eq-THIS c =
       small = c.words_at-row.ensures.small;
     }
 
-pub returns-then-kind-eq-METHOD : goal.returns-then-kind-eq-METHOD
-returns-then-kind-eq-METHOD c =
+pub returns-in-21 : goal.returns-in-21
+returns-in-21 c =
     let a = c.args in
     let w = switches_of a.switches in
     let ns = names_of a.names.now a.text.now in
@@ -29,8 +29,8 @@ returns-then-kind-eq-METHOD c =
       small = c.words_at-row.ensures.small;
     }
 
-pub returns-then-kind-eq-BODY : goal.returns-then-kind-eq-BODY
-returns-then-kind-eq-BODY c =
+pub returns-in-19 : goal.returns-in-19
+returns-in-19 c =
     let a = c.args in
     let w = switches_of a.switches in
     let ns = names_of a.names.now a.text.now in
@@ -40,8 +40,8 @@ returns-then-kind-eq-BODY c =
       small = c.words_at-row.ensures.small;
     }
 
-pub returns-then-kind-eq-FUNCTION : goal.returns-then-kind-eq-FUNCTION
-returns-then-kind-eq-FUNCTION c =
+pub returns-in-17 : goal.returns-in-17
+returns-in-17 c =
     let a = c.args in
     let ns = names_of a.names.now a.text.now in
     let ws = words a.rows.now in
@@ -50,8 +50,8 @@ returns-then-kind-eq-FUNCTION c =
       small = c.words_at-row.ensures.small;
     }
 
-pub returns-then-kind-eq-ARROW : goal.returns-then-kind-eq-ARROW
-returns-then-kind-eq-ARROW c =
+pub returns-in-16 : goal.returns-in-16
+returns-in-16 c =
     let a = c.args in
     let ns = names_of a.names.now a.text.now in
     let ws = words a.rows.now in
@@ -60,8 +60,8 @@ returns-then-kind-eq-ARROW c =
       small = c.words_at-row.ensures.small;
     }
 
-pub returns : goal.returns
-returns c = record {
+pub returns-in_default : goal.returns-in_default
+returns-in_default c = record {
   takes = takes_of (names_of c.args.names.now c.args.text.now) (switches_of c.args.switches) c.args.late (place_of c.args.q) c.args.i (children (words c.args.rows.now) c.args.i) c.words_at-row.ensures.kind_value c.any_act.ensures;
   small = c.words_at-row.ensures.small;
 }

@@ -6,7 +6,7 @@ use mathlib.Core.Path.{◌≡◌, refl, sym, ap, ◌∙◌}
 use lib.ListN.{length}
 use Rattle.rows.specs.Sound.{GoodSizes}
 use Rattle.rows.specs.Refusals.{sizes_ok, limited}
-use Rattle.rows.proofs.Ordering.{SizesOk, is-checked, is_malformed, good-sizes, bad-by, deep-at, ends-within}
+use Rattle.rows.proofs.Ordering.{SizesOk, is-checked, is_malformed, good-sizes, deep-at, ends-within}
 use native.Mathlib.Omega.{arith}
 use Rattle.rows.proofs.check.Goals as goal
 
@@ -23,69 +23,48 @@ returns-then-not-sizes_ok c =
     let a = c.args in
     is_malformed _ a.limits.depth _ _ _ (sized a.limits.rows a.rows.now a.names.now a.text.now c.capped-most.ensures.0 c.sizes_ok.ensures ∙ c.if-not-sizes_ok.true)
 
-pub first_bad_name-named-requires : goal.first_bad_name-named-requires
-first_bad_name-named-requires c =
-    let a = c.args in
-    let g = good a.limits.rows a.rows.now a.names.now a.text.now c.capped-most.ensures.0 c.sizes_ok.ensures c.if-not-sizes_ok.false in
-    omega arith
-
-pub returns-in-At : goal.returns-in-At
-returns-in-At c =
+pub returns-in-Some : goal.returns-in-Some
+returns-in-Some c =
     let a = c.args in
     let sizes = sized a.limits.rows a.rows.now a.names.now a.text.now c.capped-most.ensures.0 c.sizes_ok.ensures ∙ c.if-not-sizes_ok.false in
-    is-checked _ _ _ _ _ _ _ _ _ sizes (sym c.first_bad_name-named.ensures ∙ c.in-At.is) refl refl refl
+    is-checked _ _ _ _ _ _ _ _ _ sizes (sym c.first_bad_name.ensures ∙ c.in-Some.is) refl refl refl
 
-pub first_fault-fault-requires : goal.first_fault-fault-requires
-first_fault-fault-requires c =
-    let a = c.args in
-    let g = good a.limits.rows a.rows.now a.names.now a.text.now c.capped-most.ensures.0 c.sizes_ok.ensures c.if-not-sizes_ok.false in
-    omega arith
-
-pub returns-in-Bad : goal.returns-in-Bad
-returns-in-Bad c =
+pub returns-in-Some-first_fault : goal.returns-in-Some-first_fault
+returns-in-Some-first_fault c =
     let a = c.args in
     let sizes = sized a.limits.rows a.rows.now a.names.now a.text.now c.capped-most.ensures.0 c.sizes_ok.ensures ∙ c.if-not-sizes_ok.false in
-    let named = sym c.first_bad_name-named.ensures ∙ c.in_default.is in
-    bad-by c.fault_by_class.ensures (is-checked _ _ _ _ _ _ _ _ _ sizes named (sym c.first_fault-fault.ensures ∙ c.in-Bad.is) refl refl)
+    let named = sym c.first_bad_name.ensures ∙ c.in_default.is in
+    is-checked _ _ _ _ _ _ _ _ _ sizes named (sym c.first_fault.ensures ∙ c.in-Some-first_fault.is) refl refl
 
-pub first_deep-deep-requires : goal.first_deep-deep-requires
-first_deep-deep-requires c =
+pub first_deep-requires-clause-n_bound : goal.first_deep-requires-clause-n_bound
+first_deep-requires-clause-n_bound c =
     let a = c.args in
     let g = good a.limits.rows a.rows.now a.names.now a.text.now c.capped-most.ensures.0 c.sizes_ok.ensures c.if-not-sizes_ok.false in
-    record {
-      n_bound = (omega arith, (omega arith, ends-within _ _ _ g.some (sym c.first_fault-fault.ensures ∙ c.in_default-fault.is)));
-      most_bound = omega arith;
-    }
+    (omega arith, (omega arith, ends-within _ _ _ g.some (sym c.first_fault.ensures ∙ c.in_default-first_fault.is)))
 
-pub returns-in-At-deep : goal.returns-in-At-deep
-returns-in-At-deep c =
+pub returns-in-Some-first_deep : goal.returns-in-Some-first_deep
+returns-in-Some-first_deep c =
     let a = c.args in
     let sizes = sized a.limits.rows a.rows.now a.names.now a.text.now c.capped-most.ensures.0 c.sizes_ok.ensures ∙ c.if-not-sizes_ok.false in
-    let named = sym c.first_bad_name-named.ensures ∙ c.in_default.is in
-    let fine = sym c.first_fault-fault.ensures ∙ c.in_default-fault.is in
-    let deep = sym (deep-at _ _ _ _ c.capped-deepest.ensures.0 c.first_deep-deep.ensures) ∙ c.in-At-deep.is in
+    let named = sym c.first_bad_name.ensures ∙ c.in_default.is in
+    let fine = sym c.first_fault.ensures ∙ c.in_default-first_fault.is in
+    let deep = sym (deep-at _ _ _ _ c.capped-deepest.ensures.0 c.first_deep.ensures) ∙ c.in-Some-first_deep.is in
     is-checked _ _ _ _ _ _ _ _ _ sizes named fine deep refl
 
-pub first_made-made-requires : goal.first_made-made-requires
-first_made-made-requires c =
-    let a = c.args in
-    let g = good a.limits.rows a.rows.now a.names.now a.text.now c.capped-most.ensures.0 c.sizes_ok.ensures c.if-not-sizes_ok.false in
-    omega arith
-
-pub returns-in-At-made : goal.returns-in-At-made
-returns-in-At-made c =
+pub returns-in-Some-first_made : goal.returns-in-Some-first_made
+returns-in-Some-first_made c =
     let a = c.args in
     let sizes = sized a.limits.rows a.rows.now a.names.now a.text.now c.capped-most.ensures.0 c.sizes_ok.ensures ∙ c.if-not-sizes_ok.false in
-    let named = sym c.first_bad_name-named.ensures ∙ c.in_default.is in
-    let fine = sym c.first_fault-fault.ensures ∙ c.in_default-fault.is in
-    let deep = sym (deep-at _ _ _ _ c.capped-deepest.ensures.0 c.first_deep-deep.ensures) ∙ c.in_default-deep.is in
-    is-checked _ _ _ _ _ _ _ _ _ sizes named fine deep (sym c.first_made-made.ensures ∙ c.in-At-made.is)
+    let named = sym c.first_bad_name.ensures ∙ c.in_default.is in
+    let fine = sym c.first_fault.ensures ∙ c.in_default-first_fault.is in
+    let deep = sym (deep-at _ _ _ _ c.capped-deepest.ensures.0 c.first_deep.ensures) ∙ c.in_default-first_deep.is in
+    is-checked _ _ _ _ _ _ _ _ _ sizes named fine deep (sym c.first_made.ensures ∙ c.in-Some-first_made.is)
 
 pub returns : goal.returns
 returns c =
     let a = c.args in
     let sizes = sized a.limits.rows a.rows.now a.names.now a.text.now c.capped-most.ensures.0 c.sizes_ok.ensures ∙ c.if-not-sizes_ok.false in
-    let named = sym c.first_bad_name-named.ensures ∙ c.in_default.is in
-    let fine = sym c.first_fault-fault.ensures ∙ c.in_default-fault.is in
-    let deep = sym (deep-at _ _ _ _ c.capped-deepest.ensures.0 c.first_deep-deep.ensures) ∙ c.in_default-deep.is in
-    is-checked _ _ _ _ _ _ _ _ _ sizes named fine deep (sym c.first_made-made.ensures ∙ c.in_default-made.is)
+    let named = sym c.first_bad_name.ensures ∙ c.in_default.is in
+    let fine = sym c.first_fault.ensures ∙ c.in_default-first_fault.is in
+    let deep = sym (deep-at _ _ _ _ c.capped-deepest.ensures.0 c.first_deep.ensures) ∙ c.in_default-first_deep.is in
+    is-checked _ _ _ _ _ _ _ _ _ sizes named fine deep (sym c.first_made.ensures ∙ c.in_default-first_made.is)

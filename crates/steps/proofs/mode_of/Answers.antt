@@ -7,5 +7,5 @@ returns-then-arrow_function c = rw c.if-arrow_function.true
 pub returns-then-async_to_generator-async_generator_functions : goal.returns-then-async_to_generator-async_generator_functions
 returns-then-async_to_generator-async_generator_functions c = rw (c.if-arrow_function.false, c.if-async_to_generator-async_generator_functions.true)
 
-pub returns : goal.returns
-returns c = rw (c.if-arrow_function.false, c.if-async_to_generator-async_generator_functions.false)
+pub returns-else-async_to_generator-async_generator_functions : goal.returns-else-async_to_generator-async_generator_functions
+returns-else-async_to_generator-async_generator_functions c = rw (c.if-arrow_function.false, c.if-async_to_generator-async_generator_functions.false)

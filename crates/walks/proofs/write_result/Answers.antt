@@ -1,11 +1,9 @@
 -- `walks::write_result` meets its contract. Assumes nothing.
-use mathlib.Core.Path.{sym, ◌∙◌}
-use native.Mathlib.Omega.{arith}
 use Rattle.steps.specs.Outcome.{names_of}
 use Rattle.forest.specs.Forest.{table}
 use Rattle.acts.specs.View.{switches_of}
 use Rattle.walks.proofs.Quiet.{quiet-steps, none_made}
-use Rattle.walks.proofs.Readying.{given-names, given-rows, given-range, bindings_few, collected, walk_asks, no-room-rows, no-room-bindings, all-written}
+use Rattle.walks.proofs.Readying.{given-names, given-rows, given-range, bindings_few}
 use Rattle.walks.proofs.write_result.Goals as goal
 
 pub make_bindings-count-requires : goal.make_bindings-count-requires
@@ -27,23 +25,17 @@ unchanged-requires c =
           (c.keeps_arrows.ensures c.if-keeps_arrows.true) (none_made _ c.args.cap c.make_bindings-count.ensures.kept c.if-count-eq0.true);
     }
 
-pub returns-then-not-has_room : goal.returns-then-not-has_room
-returns-then-not-has_room c =
-    no-room-rows _ _ _ _ _ (collected c.requires c.make_bindings-count.ensures.kept c.make_bindings-count.ensures.filed_2) _ _ (sym c.has_room.ensures
-    ∙ c.if-not-has_room.true)
+pub invariant_of-bindings : goal.invariant_of-bindings
+invariant_of-bindings c = record {
+  store = c.make_bindings-count.ensures.kept.store;
+  small = c.requires.low;
+}
 
-pub returns-then-out_bindings-count : goal.returns-then-out_bindings-count
-returns-then-out_bindings-count c = no-room-bindings _ _ _ _ _ (collected c.requires c.make_bindings-count.ensures.kept c.make_bindings-count.ensures.filed_2) _ _ (omega arith)
-
-pub emit-written-requires : goal.emit-written-requires
-emit-written-requires c =
-    let all = walk_asks _ _ _ _ _ (collected c.requires c.make_bindings-count.ensures.kept c.make_bindings-count.ensures.filed_2) in record {
-      ranged = all.0;
-      holds = all.1.0;
-      walk_bound = all.1.1;
-    }
-
-pub returns : goal.returns
-returns c =
-    all-written _ _ _ _ _ (collected c.requires c.make_bindings-count.ensures.kept c.make_bindings-count.ensures.filed_2) _ _ _ _ _ _ c.emit-written.ensures
-    c.write_records-recorded.ensures (sym c.has_room.ensures ∙ c.if-not-has_room.false) (omega arith)
+pub write_walked-requires : goal.write_walked-requires
+write_walked-requires c = record {
+  accepted = c.requires.accepted;
+  on = c.requires.on;
+  kept = c.make_bindings-count.ensures.kept;
+  filed = c.make_bindings-count.ensures.filed_2;
+  fits = c.requires.fits;
+}

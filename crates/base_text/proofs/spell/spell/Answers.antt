@@ -1,30 +1,58 @@
 -- `base_text::spell::spell` meets its contract. Assumes nothing.
-use mathlib.Core.Path.{◌≡◌, subst}
+use mathlib.Core.Path.{◌≡◌, ◌∙◌}
 use mathlib.Core.Bool.{true}
-use Rattle.base_text.specs.declared.Property.{Property}
-use Rattle.base_text.specs.declared.Property.TheVariants.{Named}
-use Rattle.base_text.specs.Bases.{base_part, property_ok}
+use Prim.Native.Nat.{ℕ, ◌≤◌, ◌<◌, ◌-◌, ◌+◌}
+use mathlib.Core.List.{List}
+use native.Mathlib.Omega.{arith}
+use borrow.Author.Tests.{ne_eqb}
+use lib.ListN.{length, take, drop}
+use Rattle.std.specs.Prelude.{Some}
+use Rattle.names.specs.Names.{bytes_of, start_of, length_of}
+use Rattle.base_text.specs.Bindings.{number_of_role}
+use Rattle.base_text.specs.Bases.{property_ok}
+use Rattle.base_text.proofs.Short.{base_short, Good, good-bytes}
 use Rattle.base_text.proofs.Checking.{NameAt, name-at}
-use Rattle.base_text.proofs.Telling.{bare-room, bare, named}
+use Rattle.names.specs.Names.{GoodName}
+use Rattle.names.proofs.GoodNames.{good-name}
+use borrow.Author.Rules.{rules}
+use Rattle.base_text.proofs.Pieces.{cut}
+use Rattle.base_text.proofs.Telling.{bare, named}
 use Rattle.base_text.proofs.spell.spell.Goals as goal
 
-pub returns-then-out-count : goal.returns-then-out-count
-returns-then-out-count c = bare-room _ _ _ _ _ _ _ c.in_default.is c.base_of-base.ensures.width c.if-out-count.true
+-- the bytes of name k, cut from the text
+part : (names text : List ℕ) (k start n : ℕ) → 0 < k → start ≡ start_of names k → n ≡ length_of names k → take (start + n - start) (drop start text) ≡ bytes_of names text k
+unfolding bytes_of
+part names text k start n some p q = let z : k ≡ 0 → ⊥ = λ e. omega arith in cut start n text ∙ rw (ne_eqb k 0 z, p, q)
+
+pub write-requires : goal.write-requires
+write-requires c = let l : length c.base_of-base.result.now ≤ 13 = rw c.base_of-base.ensures (base_short (number_of_role c.args.binding.role)) in omega arith
+
+pub slice_bounds-spell_property-end : goal.slice_bounds-spell_property-end
+slice_bounds-spell_property-end c =
+    let a = c.args in
+    let k = c.in-Some.k in
+    let e : property_ok a.names.now a.text.now (Some k) ≡ true = rw c.in-Some.is at c.requires.1 in
+    let n : NameAt a.names.now a.text.now k = name-at a.names.now a.text.now k e in
+    let g : GoodName a.names.now a.text.now k = good-name a.names.now a.text.now k n.good in
+    let h : c.cell-start.result + c.cell.result ≤ length a.text.now = rw (c.cell-start.ensures.0, c.cell.ensures.0) g.within in
+    search rules
+
+pub spell_property-requires : goal.spell_property-requires
+spell_property-requires c =
+    let a = c.args in
+    let k = c.in-Some.k in
+    let e : property_ok a.names.now a.text.now (Some k) ≡ true = rw c.in-Some.is at c.requires.1 in
+    let g : Good (bytes_of a.names.now a.text.now k) = good-bytes a.names.now a.text.now k (name-at a.names.now a.text.now k e) in
+    let q = part a.names.now a.text.now k _ _ (name-at a.names.now a.text.now k e).some c.cell-start.ensures.0 c.cell.ensures.0 in
+    (rw c.base_of-base.ensures (base_short (number_of_role a.binding.role)), rw q g.some, rw q g.few)
 
 pub returns-in_default : goal.returns-in_default
-returns-in_default c =
-    let b = c.base_of-base in
-    bare _ _ _ _ _ _ b.result.from _ _ c.in_default.is b.ensures.width b.ensures.bytes c.if-out-count.false c.put_base.ensures
-
-pub spell_named-requires : goal.spell_named-requires
-spell_named-requires c =
-    let a = c.args in
-    let k = c.in-Named.k in
-    let e : property_ok a.names.now a.text.now (Named k) ≡ true = subst (λ (q : Property). property_ok a.names.now a.text.now q ≡ true) c.in-Named.is c.requires.1 in
-    let n : NameAt a.names.now a.text.now k = name-at a.names.now a.text.now k e in
-    (c.base_of-base.ensures.fits, n.some, n.high, c.requires.0, n.good)
+returns-in_default c = bare _ _ _ _ _ _ _ _ c.in_default.is (rw c.base_of-base.ensures at c.write.ensures)
 
 pub returns : goal.returns
 returns c =
-    let b = c.base_of-base in
-    named _ _ _ _ _ _ c.in-Named.k _ (base_part b.result.from b.result.count) _ c.in-Named.is b.ensures.bytes c.spell_named.ensures
+    let a = c.args in
+    let k = c.in-Some.k in
+    let e : property_ok a.names.now a.text.now (Some k) ≡ true = rw c.in-Some.is at c.requires.1 in
+    let q = part a.names.now a.text.now k _ _ (name-at a.names.now a.text.now k e).some c.cell-start.ensures.0 c.cell.ensures.0 in
+    named _ _ _ _ _ _ k _ _ c.in-Some.is (rw (q, c.base_of-base.ensures) at c.spell_property.ensures)

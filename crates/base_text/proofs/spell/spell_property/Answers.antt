@@ -1,24 +1,38 @@
 -- `base_text::spell::spell_property` meets its contract. Assumes nothing.
-use mathlib.Core.Path.{◌≡◌}
-use lib.ListN.{length}
-use Rattle.base_text.specs.Bases.{base_part}
-use Rattle.base_text.proofs.Pieces.{part_length}
-use Rattle.base_text.proofs.Telling.{letter, room, written}
+use Prim.Native.Nat.{◌≤◌, ◌-◌}
+use mathlib.Core.Path.{◌≡◌, ap, sym, ◌∙◌}
+use native.Mathlib.Omega.{arith}
+use borrow.Author.Rules.{rules}
+use lib.ListN.{length, take, drop}
+use Rattle.std.specs.Prelude.{Some, None, Err, is_some}
+use Rattle.letters.specs.Characters.{first_width}
+use Rattle.base_text.specs.declared.Refusal.TheVariants.{UnknownLetter}
+use Rattle.base_text.proofs.FirstCharacter.{width_fits}
+use Rattle.base_text.proofs.Pieces.{rest_of}
+use Rattle.base_text.proofs.Telling.{letter, capitalized}
 use Rattle.base_text.proofs.spell.spell_property.Goals as goal
 
-pub returns-then-capitals-eq0 : goal.returns-then-capitals-eq0
-returns-then-capitals-eq0 c =
-    let a = c.args in
-    letter _ (base_part a.from a.count) _ _ _ _ _ _ c.head_of-head.ensures c.if-capitals-eq0.true
+pub returns-in_err-head : goal.returns-in_err-head
+returns-in_err-head c =
+    let none : c.head_of.result ≡ None = grind arith in
+    let e : c.from_residual.result ≡ Err (UnknownLetter c.args.number) = grind arith in
+    rw e (letter _ _ _ _ (sym c.head_of.ensures.told ∙ ap is_some none))
 
-pub returns-then-out-all : goal.returns-then-out-all
-returns-then-out-all c =
-    let a = c.args in
-    let q : length (base_part a.from a.count) ≡ a.count = part_length a.from a.count c.requires.0 in
-    room _ (base_part a.from a.count) _ _ _ _ _ _ c.head_of-head.ensures c.if-capitals-eq0.false (rw q c.if-out-all.true)
+pub slice_bounds-write-count : goal.slice_bounds-write-count
+slice_bounds-write-count c =
+    let some : c.head_of.result ≡ Some c.in_ok-head.head = grind arith in
+    rw (c.head_of.ensures.holds _ some).0 (width_fits c.args.s.now c.requires.1)
+
+pub slice_bounds-write-start : goal.slice_bounds-write-start
+slice_bounds-write-start c =
+    let some : c.head_of.result ≡ Some c.in_ok-head.head = grind arith in
+    let fits : c.in_ok-head.head.width ≤ length c.args.s.now = rw (c.head_of.ensures.holds _ some).0 (width_fits c.args.s.now c.requires.1) in
+    search rules
 
 pub returns : goal.returns
 returns c =
-    let a = c.args in
-    let q : length (base_part a.from a.count) ≡ a.count = part_length a.from a.count c.requires.0 in
-    written _ (base_part a.from a.count) _ _ _ _ _ _ c.head_of-head.ensures a.count _ q c.if-capitals-eq0.false c.if-out-all.false c.put_all.ensures
+    let s = c.args.s.now in
+    let some : c.head_of.result ≡ Some c.in_ok-head.head = grind arith in
+    let h = c.head_of.ensures.holds _ some in
+    let rest : take (length s - c.in_ok-head.head.width) (drop c.in_ok-head.head.width s) ≡ drop (first_width s) s = rest_of _ s ∙ rw h.0 in
+    capitalized _ _ _ _ _ _ _ _ (sym c.head_of.ensures.told ∙ ap is_some some) (c.bytes.ensures ∙ h.1) rest c.write.ensures

@@ -5,7 +5,9 @@ use Rattle.forest.specs.Forest.{Rows, Rows.none, Rows.node, size}
 use Rattle.steps.specs.Outcome.{names_of}
 use Rattle.steps.specs.Bindings.{number}
 use Rattle.passes.specs.declared.Becomes.{Becomes}
-use Rattle.passes.specs.View.{op_of}
+use Rattle.passes.specs.declared.slots.Slot.TheVariants.{Wrapped}
+use Rattle.passes.proofs.Numbers.{slot_same}
+use Rattle.passes.specs.View.{slot_number, access_number, op_of}
 use Rattle.steps.specs.Context.{Spot}
 use Rattle.plan.specs.Frames.{OpLow}
 use Rattle.output.proofs.Writing.{nest, then, beside, named, leaf, size-one, size_as}
@@ -18,7 +20,7 @@ use Rattle.emit_plan.proofs.Written.{top-join, top-size, statement-plain, statem
 use Rattle.emit_plan.proofs.Unchanged.{planned, unchanged_rows, unchanged_inner, no_children}
 use Rattle.emit.proofs.Dressing.{body-room, inner_room, dressed_written}
 use Rattle.emit.proofs.Lists.{row_room, row-fewer, turn_on, turn-less, turned}
-use Prim.Native.Nat.{ℕ, ◌-◌, ◌<◌}
+use Prim.Native.Nat.{ℕ, ◌<◌}
 use Rattle.emit.proofs.walkers.+walk_rows.Goals as goal
 
 pub around-overflow_add-at : goal.around-overflow_add-at
@@ -31,7 +33,7 @@ pub around-append-requires : goal.around-append-requires
 around-append-requires t c = let h = c.requires.inner_bound in omega arith
 
 pub around-returns-then-inner : goal.around-returns-then-inner
-around-returns-then-inner t c = rw (no_children c.args.rows.now c.args.names.now c.args.text.now c.args.made.now c.args.walk c.args.inner c.if-inner.true) (leaf c.append.ensures)
+around-returns-then-inner t c = rw (no_children c.args.rows.now c.args.names.now c.args.text.now c.args.walk c.args.inner c.if-inner.true) (leaf c.append.ensures)
 
 pub around-list-next-requires : goal.around-list-next-requires
 around-list-next-requires t c = (let m = c.decreases in omega arith, (c.requires.inner_pre, let h0 = c.append-first.ensures.next in let h1 = c.requires.inner_bound in omega arith))
@@ -46,7 +48,7 @@ pub around-returns : goal.around-returns
 around-returns t c = nest c.append-first.ensures c.list-next.ensures c.patch_end.ensures
 
 pub expression-open_body-inner-requires : goal.expression-open_body-inner-requires
-expression-open_body-inner-requires t c = body-room c.args.rows.now c.args.names.now c.args.text.now c.args.made.now c.args.walk c.args.plan c.args.at c.requires.plan_bound
+expression-open_body-inner-requires t c = body-room c.args.rows.now c.args.names.now c.args.text.now c.args.walk c.args.plan _ (c.eq-wraps.ensures ∙ slot_same c.args.plan.slot Wrapped) c.args.at c.requires.plan_bound
 
 pub expression-undressed-next-requires : goal.expression-undressed-next-requires
 expression-undressed-next-requires t c = (
@@ -55,7 +57,7 @@ expression-undressed-next-requires t c = (
     c.requires.row_pre,
     (
       c.requires.first_value,
-      inner_room c.args.rows.now c.args.names.now c.args.text.now c.args.made.now c.args.walk c.args.plan c.args.at c.requires.plan_bound
+      inner_room c.args.rows.now c.args.names.now c.args.text.now c.args.walk c.args.plan _ (c.eq-wraps.ensures ∙ slot_same c.args.plan.slot Wrapped) c.args.at c.requires.plan_bound
           c.open_body-inner.ensures.0,
     ),
   ),
@@ -63,32 +65,28 @@ expression-undressed-next-requires t c = (
 
 pub expression-overflow_cast-next : goal.expression-overflow_cast-next
 expression-overflow_cast-next t c =
-    let a = inner_room c.args.rows.now c.args.names.now c.args.text.now c.args.made.now c.args.walk c.args.plan c.args.at c.requires.plan_bound
+    let a = inner_room c.args.rows.now c.args.names.now c.args.text.now c.args.walk c.args.plan _ (c.eq-wraps.ensures ∙ slot_same c.args.plan.slot Wrapped) c.args.at c.requires.plan_bound
     c.open_body-inner.ensures.0 in
     let b = c.undressed-next.ensures.next in omega arith
 
 pub expression-close_body-requires : goal.expression-close_body-requires
-expression-close_body-requires t c = body-room c.args.rows.now c.args.names.now c.args.text.now c.args.made.now c.args.walk c.args.plan c.args.at c.requires.plan_bound
+expression-close_body-requires t c = body-room c.args.rows.now c.args.names.now c.args.text.now c.args.walk c.args.plan _ (c.eq-wraps.ensures ∙ slot_same c.args.plan.slot Wrapped) c.args.at c.requires.plan_bound
 
 pub expression-returns : goal.expression-returns
 expression-returns t c =
-    dressed_written c.args.rows.now c.args.names.now c.args.text.now c.args.made.now c.args.walk c.args.plan c.open_body-inner.ensures.0
+    dressed_written c.args.rows.now c.args.names.now c.args.text.now c.args.walk c.args.plan _ (c.eq-wraps.ensures ∙ slot_same c.args.plan.slot Wrapped) c.open_body-inner.ensures.0
     c.open_body-inner.ensures.1 c.undressed-next.ensures c.close_body.ensures
 
 pub function-insert_at_the_top-top-requires : goal.function-insert_at_the_top-top-requires
 function-insert_at_the_top-top-requires t c =
     record {
-      held = record {
-        store = c.requires.inner_pre.holds.store;
-        frame_low = subst (λ (f : ℕ). f < c.args.walk.cap)
-            (sym c.this_at-frame.ensures.value) c.requires.inner_pre.later.this;
-        cap_low = c.requires.inner_pre.holds.cap_low;
-      };
-      frame_bound = let h0 = top-size c.args.rows.now c.args.names.now c.args.text.now c.args.made.now c.args.walk c.args.slot c.args.kind c.args.inner
-          c.requires.inner_pre.holds.store c.requires.inner_pre.later.this in
+      frame_low = subst (λ (f : ℕ). f < c.args.walk.bindings.cap)
+          (sym c.this_at-frame.ensures.value) c.requires.inner_pre.later.this;
+      frame_bound = let h0 = top-size c.args.rows.now c.args.names.now c.args.text.now c.args.walk (slot_number c.args.slot) c.args.kind c.args.inner
+          c.args.walk.bindings.store c.requires.inner_pre.later.this in
           let h1 = c.requires.inner_bound in
           let h2 = c.append-first.ensures.next in
-          let h_t = ap (λ (f : ℕ). size (top_rows c.args.made.now c.args.walk c.args.slot c.args.kind f)) c.this_at-frame.ensures.value in
+          let h_t = ap (λ (f : ℕ). size (top_rows c.args.walk (slot_number c.args.slot) c.args.kind f)) c.this_at-frame.ensures.value in
           omega arith;
     }
 
@@ -97,41 +95,41 @@ function-list-next-requires t c = (
   let m = c.decreases in omega arith,
   (
     c.requires.inner_pre,
-    let h0 = top-size c.args.rows.now c.args.names.now c.args.text.now c.args.made.now c.args.walk c.args.slot c.args.kind c.args.inner
-        c.requires.inner_pre.holds.store c.requires.inner_pre.later.this in let h1 = c.requires.inner_bound in let h2 = c.append-first.ensures.next in let h3 =
+    let h0 = top-size c.args.rows.now c.args.names.now c.args.text.now c.args.walk (slot_number c.args.slot) c.args.kind c.args.inner
+        c.args.walk.bindings.store c.requires.inner_pre.later.this in let h1 = c.requires.inner_bound in let h2 = c.append-first.ensures.next in let h3 =
         c.insert_at_the_top-top.ensures.next in let h_t = ap (λ (f : ℕ). size
-        (top_rows c.args.made.now c.args.walk c.args.slot c.args.kind f)) c.this_at-frame.ensures.value in omega arith,
+        (top_rows c.args.walk (slot_number c.args.slot) c.args.kind f)) c.this_at-frame.ensures.value in omega arith,
   ),
 )
 
 pub function-overflow_cast-next : goal.function-overflow_cast-next
 function-overflow_cast-next t c =
-    let h0 = top-size c.args.rows.now c.args.names.now c.args.text.now c.args.made.now c.args.walk c.args.slot c.args.kind c.args.inner
-    c.requires.inner_pre.holds.store c.requires.inner_pre.later.this in
+    let h0 = top-size c.args.rows.now c.args.names.now c.args.text.now c.args.walk (slot_number c.args.slot) c.args.kind c.args.inner
+    c.args.walk.bindings.store c.requires.inner_pre.later.this in
     let h1 = c.requires.inner_bound in
     let h2 = c.append-first.ensures.next in
     let h3 = c.insert_at_the_top-top.ensures.next in
     let h4 = c.list-next.ensures.next in
-    let h_t = ap (λ (f : ℕ). size (top_rows c.args.made.now c.args.walk c.args.slot c.args.kind f)) c.this_at-frame.ensures.value in
+    let h_t = ap (λ (f : ℕ). size (top_rows c.args.walk (slot_number c.args.slot) c.args.kind f)) c.this_at-frame.ensures.value in
     omega arith
 
 pub function-patch_end-requires : goal.function-patch_end-requires
 function-patch_end-requires t c =
-    let h0 = top-size c.args.rows.now c.args.names.now c.args.text.now c.args.made.now c.args.walk c.args.slot c.args.kind c.args.inner
-    c.requires.inner_pre.holds.store c.requires.inner_pre.later.this in
+    let h0 = top-size c.args.rows.now c.args.names.now c.args.text.now c.args.walk (slot_number c.args.slot) c.args.kind c.args.inner
+    c.args.walk.bindings.store c.requires.inner_pre.later.this in
     let h1 = c.requires.inner_bound in
     let h2 = c.append-first.ensures.next in
     let h3 = c.insert_at_the_top-top.ensures.next in
     let h4 = c.list-next.ensures.next in
-    let h_t = ap (λ (f : ℕ). size (top_rows c.args.made.now c.args.walk c.args.slot c.args.kind f)) c.this_at-frame.ensures.value in
+    let h_t = ap (λ (f : ℕ). size (top_rows c.args.walk (slot_number c.args.slot) c.args.kind f)) c.this_at-frame.ensures.value in
     omega arith
 
 pub function-returns : goal.function-returns
 function-returns t c =
     named (ap (λ (t : Rows). node c.args.head.kind c.args.head.attr c.args.head.name t none)
-    (top-join c.args.rows.now c.args.names.now c.args.text.now c.args.made.now c.args.walk c.args.slot c.args.kind c.args.inner
-    c.requires.inner_pre.holds.store c.requires.inner_pre.later.this)) (nest c.append-first.ensures (then (named (ap
-    (top_rows c.args.made.now c.args.walk c.args.slot c.args.kind)
+    (top-join c.args.rows.now c.args.names.now c.args.text.now c.args.walk (slot_number c.args.slot) c.args.kind c.args.inner
+    c.args.walk.bindings.store c.requires.inner_pre.later.this)) (nest c.append-first.ensures (then (named (ap
+    (top_rows c.args.walk (slot_number c.args.slot) c.args.kind)
     (sym c.this_at-frame.ensures.value)) c.insert_at_the_top-top.ensures) c.list-next.ensures) c.patch_end.ensures)
 
 pub kept-function-requires : goal.kept-function-requires
@@ -148,7 +146,7 @@ kept-class-requires t c = (
     (
       c.requires.fit,
       let h0 = ap size
-          (kept_inside c.args.rows.now c.args.names.now c.args.text.now c.args.made.now c.args.walk c.args.slot c.args.kind c.args.inner (sym c.is_function.ensures
+          (kept_inside c.args.rows.now c.args.names.now c.args.text.now c.args.walk (slot_number c.args.slot) c.args.kind c.args.inner (sym c.is_function.ensures
           ∙ c.if-is_function.false)) in let h1 = c.requires.inner_bound in omega arith,
     ),
   ),
@@ -157,7 +155,7 @@ kept-class-requires t c = (
 pub kept-returns-then-is_class : goal.kept-returns-then-is_class
 kept-returns-then-is_class t c =
     named (ap (λ (t : Rows). node c.args.head.kind c.args.head.attr c.args.head.name t none)
-    (kept_inside c.args.rows.now c.args.names.now c.args.text.now c.args.made.now c.args.walk c.args.slot c.args.kind c.args.inner (sym c.is_function.ensures
+    (kept_inside c.args.rows.now c.args.names.now c.args.text.now c.args.walk (slot_number c.args.slot) c.args.kind c.args.inner (sym c.is_function.ensures
     ∙ c.if-is_function.false))) c.class.ensures
 
 pub kept-around-requires : goal.kept-around-requires
@@ -168,7 +166,7 @@ kept-around-requires t c = (
     (
       c.requires.fit,
       let h0 = ap size
-          (kept_inside c.args.rows.now c.args.names.now c.args.text.now c.args.made.now c.args.walk c.args.slot c.args.kind c.args.inner (sym c.is_function.ensures
+          (kept_inside c.args.rows.now c.args.names.now c.args.text.now c.args.walk (slot_number c.args.slot) c.args.kind c.args.inner (sym c.is_function.ensures
           ∙ c.if-is_function.false)) in let h1 = c.requires.inner_bound in omega arith,
     ),
   ),
@@ -177,7 +175,7 @@ kept-around-requires t c = (
 pub kept-returns : goal.kept-returns
 kept-returns t c =
     named (ap (λ (t : Rows). node c.args.head.kind c.args.head.attr c.args.head.name t none)
-    (kept_inside c.args.rows.now c.args.names.now c.args.text.now c.args.made.now c.args.walk c.args.slot c.args.kind c.args.inner (sym c.is_function.ensures
+    (kept_inside c.args.rows.now c.args.names.now c.args.text.now c.args.walk (slot_number c.args.slot) c.args.kind c.args.inner (sym c.is_function.ensures
     ∙ c.if-is_function.false))) c.around.ensures
 
 pub list-loop-i-init : goal.list-loop-i-init
@@ -206,11 +204,11 @@ list-along-inner-requires t c =
 
 pub list-around-next-requires : goal.list-around-next-requires
 list-around-next-requires t c =
-    let p = planned c.args.rows.now c.args.names.now c.args.text.now c.args.made.now c.args.walk c.args.siblings.bind c.loop-i.state c.loop-i.q c.loop-i.i
+    let p = planned c.args.rows.now c.args.names.now c.args.text.now c.args.walk c.args.siblings.bind c.loop-i.state c.loop-i.q c.loop-i.i
     c.words_at-head.result c.along-inner.result (c.stays_at.ensures c.if-stays_at.true) c.words_at-head.ensures c.along-inner.ensures in (
       row-fewer c.loop-i.invariant c.requires.inner_pre.range.nested c.loop-i-test.true p 1 _ (omega arith) c.decreases,
       (
-        unchanged_inner c.args.rows.now c.args.names.now c.args.text.now c.args.made.now c.args.walk c.args.siblings.bind c.loop-i.state c.loop-i.q c.loop-i.i
+        unchanged_inner c.args.rows.now c.args.names.now c.args.text.now c.args.walk c.args.siblings.bind c.loop-i.state c.loop-i.q c.loop-i.i
             c.words_at-head.result c.along-inner.result (c.stays_at.ensures c.if-stays_at.true) c.words_at-head.ensures c.along-inner.ensures
             (record {
               bytes = c.requires.inner_pre.range.bytes;
@@ -222,7 +220,7 @@ list-around-next-requires t c =
         (
           c.words_at-head.ensures.fit,
           let r = row_room c.loop-i.invariant c.requires.inner_pre.range.nested c.loop-i-test.true p c.requires.siblings_bound in let s = size_as
-              (unchanged_rows c.args.rows.now c.args.names.now c.args.text.now c.args.made.now c.args.walk c.args.siblings.bind c.loop-i.state c.loop-i.q c.loop-i.i
+              (unchanged_rows c.args.rows.now c.args.names.now c.args.text.now c.args.walk c.args.siblings.bind c.loop-i.state c.loop-i.q c.loop-i.i
               c.words_at-head.result c.along-inner.result (c.stays_at.ensures c.if-stays_at.true) c.words_at-head.ensures c.along-inner.ensures) in omega arith,
         ),
       ),
@@ -248,8 +246,8 @@ list-statement-next-requires t c = (
   (
     c.plan_at-plan.ensures.row_pre,
     (
-      statement_test c.plan_at-plan.result.words.kind c.plan_at-plan.result.slot c.is_statement-statement_kind.result
-          c.is_statement-statement_kind.ensures c.if-statement_kind-plan.true,
+      statement_test c.plan_at-plan.result.words.kind _ (c.eq.ensures ∙ slot_same c.plan_at-plan.result.slot Wrapped) c.is_statement-statement_kind.result
+          c.is_statement-statement_kind.ensures c.if-statement_kind-eq.true,
       row_room c.loop-i.invariant c.requires.inner_pre.range.nested c.loop-i-test.true c.plan_at-plan.ensures.planned c.requires.siblings_bound,
     ),
   ),
@@ -261,8 +259,8 @@ list-expression-next-requires t c = (
   (
     c.plan_at-plan.ensures.row_pre,
     (
-      expression-first c.args.rows.now c.args.names.now c.args.text.now c.args.made.now c.args.walk c.plan_at-plan.result
-          c.plan_at-plan.ensures.row_pre.formed c.is_statement-statement_kind.result c.is_statement-statement_kind.ensures c.if-statement_kind-plan.false,
+      expression-first c.args.rows.now c.args.names.now c.args.text.now c.args.walk c.plan_at-plan.result
+          c.plan_at-plan.ensures.row_pre.formed (c.eq.ensures ∙ slot_same c.plan_at-plan.result.slot Wrapped) c.is_statement-statement_kind.result c.is_statement-statement_kind.ensures c.if-statement_kind-eq.false,
       row_room c.loop-i.invariant c.requires.inner_pre.range.nested c.loop-i-test.true c.plan_at-plan.ensures.planned c.requires.siblings_bound,
     ),
   ),
@@ -270,23 +268,23 @@ list-expression-next-requires t c = (
 
 pub list-loop-i-smaller-then-stays_at : goal.list-loop-i-smaller-then-stays_at
 list-loop-i-smaller-then-stays_at t c =
-    let p = planned c.args.rows.now c.args.names.now c.args.text.now c.args.made.now c.args.walk c.args.siblings.bind c.loop-i.state c.loop-i.q c.loop-i.i
+    let p = planned c.args.rows.now c.args.names.now c.args.text.now c.args.walk c.args.siblings.bind c.loop-i.state c.loop-i.q c.loop-i.i
     c.words_at-head.result c.along-inner.result (c.stays_at.ensures c.if-stays_at.true) c.words_at-head.ensures c.along-inner.ensures in
     turn-less c.loop-i.invariant c.requires.inner_pre.range.nested c.loop-i-test.true p
 
 pub list-loop-i-preserved-then-stays_at : goal.list-loop-i-preserved-then-stays_at
 list-loop-i-preserved-then-stays_at t c =
-    let p = planned c.args.rows.now c.args.names.now c.args.text.now c.args.made.now c.args.walk c.args.siblings.bind c.loop-i.state c.loop-i.q c.loop-i.i
+    let p = planned c.args.rows.now c.args.names.now c.args.text.now c.args.walk c.args.siblings.bind c.loop-i.state c.loop-i.q c.loop-i.i
     c.words_at-head.result c.along-inner.result (c.stays_at.ensures c.if-stays_at.true) c.words_at-head.ensures c.along-inner.ensures in
     turn_on c.loop-i.invariant c.requires.inner_pre.range.nested c.loop-i-test.true p c.requires.inner_pre.later (named
-    (unchanged_rows c.args.rows.now c.args.names.now c.args.text.now c.args.made.now c.args.walk c.args.siblings.bind c.loop-i.state c.loop-i.q c.loop-i.i
+    (unchanged_rows c.args.rows.now c.args.names.now c.args.text.now c.args.walk c.args.siblings.bind c.loop-i.state c.loop-i.q c.loop-i.i
     c.words_at-head.result c.along-inner.result (c.stays_at.ensures c.if-stays_at.true) c.words_at-head.ensures c.along-inner.ensures) c.around-next.ensures)
 
-pub list-loop-i-smaller-then-statement_kind-plan : goal.list-loop-i-smaller-then-statement_kind-plan
-list-loop-i-smaller-then-statement_kind-plan t c = turn-less c.loop-i.invariant c.requires.inner_pre.range.nested c.loop-i-test.true c.plan_at-plan.ensures.planned
+pub list-loop-i-smaller-then-statement_kind-eq : goal.list-loop-i-smaller-then-statement_kind-eq
+list-loop-i-smaller-then-statement_kind-eq t c = turn-less c.loop-i.invariant c.requires.inner_pre.range.nested c.loop-i-test.true c.plan_at-plan.ensures.planned
 
-pub list-loop-i-preserved-then-statement_kind-plan : goal.list-loop-i-preserved-then-statement_kind-plan
-list-loop-i-preserved-then-statement_kind-plan t c =
+pub list-loop-i-preserved-then-statement_kind-eq : goal.list-loop-i-preserved-then-statement_kind-eq
+list-loop-i-preserved-then-statement_kind-eq t c =
     turn_on c.loop-i.invariant c.requires.inner_pre.range.nested c.loop-i-test.true c.plan_at-plan.ensures.planned c.requires.inner_pre.later
     c.statement-next.ensures
 
@@ -323,7 +321,7 @@ sequence-assignment-last-requires t c =
     let h1 = c.append-first.ensures.next in
     let h2 = c.around-next.ensures.next in
     let h3 = size-one c.args.head.kind c.args.head.attr c.args.head.name
-    (inside c.args.rows.now c.args.names.now c.args.text.now c.args.made.now c.args.walk c.args.inner) in
+    (inside c.args.rows.now c.args.names.now c.args.text.now c.args.walk c.args.inner) in
     omega arith
 
 pub sequence-overflow_cast-last : goal.sequence-overflow_cast-last
@@ -332,7 +330,7 @@ sequence-overflow_cast-last t c =
     let h1 = c.append-first.ensures.next in
     let h2 = c.around-next.ensures.next in
     let h3 = size-one c.args.head.kind c.args.head.attr c.args.head.name
-    (inside c.args.rows.now c.args.names.now c.args.text.now c.args.made.now c.args.walk c.args.inner) in
+    (inside c.args.rows.now c.args.names.now c.args.text.now c.args.walk c.args.inner) in
     let h4 = c.assignment-last.ensures.next in
     let h5 = size-assignment c.args.b in omega arith
 
@@ -342,7 +340,7 @@ sequence-patch_end-requires t c =
     let h1 = c.append-first.ensures.next in
     let h2 = c.around-next.ensures.next in
     let h3 = size-one c.args.head.kind c.args.head.attr c.args.head.name
-    (inside c.args.rows.now c.args.names.now c.args.text.now c.args.made.now c.args.walk c.args.inner) in
+    (inside c.args.rows.now c.args.names.now c.args.text.now c.args.walk c.args.inner) in
     let h4 = c.assignment-last.ensures.next in
     let h5 = size-assignment c.args.b in omega arith
 
@@ -356,7 +354,7 @@ statement-around-next-requires t c = (
     c.requires.row_pre.inner,
     (
       c.requires.row_pre.fit,
-      let h0 = statement-least c.args.rows.now c.args.names.now c.args.text.now c.args.made.now c.args.walk c.args.plan c.requires.row_pre.formed
+      let h0 = statement-least c.args.rows.now c.args.names.now c.args.text.now c.args.walk c.args.plan c.requires.row_pre.formed
           c.requires.kind_value.0 c.requires.kind_value.1 in let h1 = c.requires.plan_bound in omega arith,
     ),
   ),
@@ -364,17 +362,17 @@ statement-around-next-requires t c = (
 
 pub statement-returns-then-not-plan : goal.statement-returns-then-not-plan
 statement-returns-then-not-plan t c =
-    named (statement-plain c.args.rows.now c.args.names.now c.args.text.now c.args.made.now c.args.walk c.args.plan c.requires.row_pre.formed
+    named (statement-plain c.args.rows.now c.args.names.now c.args.text.now c.args.walk c.args.plan c.requires.row_pre.formed
     c.requires.kind_value.0 c.requires.kind_value.1 (flipped c.args.plan.first c.if-not-plan.true)) c.around-next.ensures
 
 pub statement-append-inner-requires : goal.statement-append-inner-requires
 statement-append-inner-requires t c =
-    let h0 = assigned-size c.args.rows.now c.args.names.now c.args.text.now c.args.made.now c.args.walk c.args.plan c.requires.row_pre.formed
+    let h0 = assigned-size c.args.rows.now c.args.names.now c.args.text.now c.args.walk c.args.plan c.requires.row_pre.formed
     c.requires.kind_value.0 c.requires.kind_value.1 (unnot c.args.plan.first c.if-not-plan.false) in
     let h1 = c.requires.plan_bound in
     let h2 = c.around-next.ensures.next in
     let h3 = size-one c.args.plan.words.kind c.args.plan.words.attr c.args.plan.words.name
-    (inside c.args.rows.now c.args.names.now c.args.text.now c.args.made.now c.args.walk c.args.plan.inner) in
+    (inside c.args.rows.now c.args.names.now c.args.text.now c.args.walk c.args.plan.inner) in
     omega arith
 
 pub statement-overflow_cast-plan : goal.statement-overflow_cast-plan
@@ -382,41 +380,41 @@ statement-overflow_cast-plan t c = let h0 = c.requires.row_pre.bound in omega ar
 
 pub statement-assignment-last-requires : goal.statement-assignment-last-requires
 statement-assignment-last-requires t c =
-    let h0 = assigned-size c.args.rows.now c.args.names.now c.args.text.now c.args.made.now c.args.walk c.args.plan c.requires.row_pre.formed
+    let h0 = assigned-size c.args.rows.now c.args.names.now c.args.text.now c.args.walk c.args.plan c.requires.row_pre.formed
     c.requires.kind_value.0 c.requires.kind_value.1 (unnot c.args.plan.first c.if-not-plan.false) in
     let h1 = c.requires.plan_bound in
     let h2 = c.around-next.ensures.next in
     let h3 = size-one c.args.plan.words.kind c.args.plan.words.attr c.args.plan.words.name
-    (inside c.args.rows.now c.args.names.now c.args.text.now c.args.made.now c.args.walk c.args.plan.inner) in
+    (inside c.args.rows.now c.args.names.now c.args.text.now c.args.walk c.args.plan.inner) in
     let h4 = c.append-inner.ensures.next in omega arith
 
 pub statement-overflow_cast-last : goal.statement-overflow_cast-last
 statement-overflow_cast-last t c =
-    let h0 = assigned-size c.args.rows.now c.args.names.now c.args.text.now c.args.made.now c.args.walk c.args.plan c.requires.row_pre.formed
+    let h0 = assigned-size c.args.rows.now c.args.names.now c.args.text.now c.args.walk c.args.plan c.requires.row_pre.formed
     c.requires.kind_value.0 c.requires.kind_value.1 (unnot c.args.plan.first c.if-not-plan.false) in
     let h1 = c.requires.plan_bound in
     let h2 = c.around-next.ensures.next in
     let h3 = size-one c.args.plan.words.kind c.args.plan.words.attr c.args.plan.words.name
-    (inside c.args.rows.now c.args.names.now c.args.text.now c.args.made.now c.args.walk c.args.plan.inner) in
+    (inside c.args.rows.now c.args.names.now c.args.text.now c.args.walk c.args.plan.inner) in
     let h4 = c.append-inner.ensures.next in
     let h5 = c.assignment-last.ensures.next in
     let h6 = size-assignment c.args.plan.bind in omega arith
 
 pub statement-patch_end-requires : goal.statement-patch_end-requires
 statement-patch_end-requires t c =
-    let h0 = assigned-size c.args.rows.now c.args.names.now c.args.text.now c.args.made.now c.args.walk c.args.plan c.requires.row_pre.formed
+    let h0 = assigned-size c.args.rows.now c.args.names.now c.args.text.now c.args.walk c.args.plan c.requires.row_pre.formed
     c.requires.kind_value.0 c.requires.kind_value.1 (unnot c.args.plan.first c.if-not-plan.false) in
     let h1 = c.requires.plan_bound in
     let h2 = c.around-next.ensures.next in
     let h3 = size-one c.args.plan.words.kind c.args.plan.words.attr c.args.plan.words.name
-    (inside c.args.rows.now c.args.names.now c.args.text.now c.args.made.now c.args.walk c.args.plan.inner) in
+    (inside c.args.rows.now c.args.names.now c.args.text.now c.args.walk c.args.plan.inner) in
     let h4 = c.append-inner.ensures.next in
     let h5 = c.assignment-last.ensures.next in
     let h6 = size-assignment c.args.plan.bind in omega arith
 
 pub statement-returns : goal.statement-returns
 statement-returns t c =
-    named (statement-assigned c.args.rows.now c.args.names.now c.args.text.now c.args.made.now c.args.walk c.args.plan c.requires.row_pre.formed
+    named (statement-assigned c.args.rows.now c.args.names.now c.args.text.now c.args.walk c.args.plan c.requires.row_pre.formed
     c.requires.kind_value.0 c.requires.kind_value.1 (unnot c.args.plan.first c.if-not-plan.false)) (beside c.around-next.ensures
     (nest c.append-inner.ensures c.assignment-last.ensures c.patch_end.ensures))
 
@@ -437,8 +435,8 @@ transform_call_expression_for_super-overflow_cast-this t c =
     let h0 = c.requires.inner_bound in
     let h1 = c.append-call.ensures.next in
     let h2 = c.transform_member_expression_for_super-this.ensures.next in
-    let h3 = call_row_size (number (names_of c.args.names.now c.args.text.now) (list_of c.args.made.now c.args.walk) c.args.usage c.args.frame c.args.property)
-    (inside c.args.rows.now c.args.names.now c.args.text.now c.args.made.now c.args.walk c.args.inner) in
+    let h3 = call_row_size (number (names_of c.args.names.now c.args.text.now) (list_of c.args.walk) (access_number c.args.usage) c.args.frame c.args.property)
+    (inside c.args.rows.now c.args.names.now c.args.text.now c.args.walk c.args.inner) in
     omega arith
 
 pub transform_call_expression_for_super-patch_end-requires : goal.transform_call_expression_for_super-patch_end-requires
@@ -446,39 +444,30 @@ transform_call_expression_for_super-patch_end-requires t c =
     let h0 = c.requires.inner_bound in
     let h1 = c.append-call.ensures.next in
     let h2 = c.transform_member_expression_for_super-this.ensures.next in
-    let h3 = call_row_size (number (names_of c.args.names.now c.args.text.now) (list_of c.args.made.now c.args.walk) c.args.usage c.args.frame c.args.property)
-    (inside c.args.rows.now c.args.names.now c.args.text.now c.args.made.now c.args.walk c.args.inner) in
+    let h3 = call_row_size (number (names_of c.args.names.now c.args.text.now) (list_of c.args.walk) (access_number c.args.usage) c.args.frame c.args.property)
+    (inside c.args.rows.now c.args.names.now c.args.text.now c.args.walk c.args.inner) in
     omega arith
 
 pub transform_call_expression_for_super-get_this_identifier-requires : goal.transform_call_expression_for_super-get_this_identifier-requires
 transform_call_expression_for_super-get_this_identifier-requires t c =
     record {
-      made_len = (
-        c.requires.inner_pre.holds.store.long,
-        (
-          c.requires.inner_pre.holds.cap_low,
-          subst (λ (s : Spot). s.ctx.this_at < c.args.walk.cap)
-              (sym c.spot-spot.ensures.result_value) c.requires.q_bound.0,
-        ),
-      );
+      frame_low = subst (λ (s : Spot). s.ctx.this_at < c.args.walk.bindings.cap) (sym c.spot-spot.ensures.result_value) c.requires.q_bound.0;
       at_bound = let h0 = c.requires.inner_bound in
           let h1 = c.append-call.ensures.next in
           let h2 = c.transform_member_expression_for_super-this.ensures.next in
-          let h3 = call_row_size (number (names_of c.args.names.now c.args.text.now) (list_of c.args.made.now c.args.walk) c.args.usage c.args.frame c.args.property)
-          (inside c.args.rows.now c.args.names.now c.args.text.now c.args.made.now c.args.walk c.args.inner) in
+          let h3 = call_row_size (number (names_of c.args.names.now c.args.text.now) (list_of c.args.walk) (access_number c.args.usage) c.args.frame c.args.property)
+          (inside c.args.rows.now c.args.names.now c.args.text.now c.args.walk c.args.inner) in
           omega arith;
     }
 
 pub transform_call_expression_for_super-returns : goal.transform_call_expression_for_super-returns
 transform_call_expression_for_super-returns t c =
     beside (nest c.append-call.ensures c.transform_member_expression_for_super-this.ensures c.patch_end.ensures) (named (ap (λ
-    (s : Spot). this_row c.args.made.now c.args.walk.cap s.ctx.takes_this s.ctx.this_at) (sym c.spot-spot.ensures.result_value)) c.get_this_identifier.ensures)
+    (s : Spot). this_row c.args.walk.bindings.made.now c.args.walk.bindings.cap s.ctx.takes_this s.ctx.this_at) (sym c.spot-spot.ensures.result_value)) c.get_this_identifier.ensures)
 
 pub transform_member_expression_for_super-accessor_identifier-first-requires : goal.transform_member_expression_for_super-accessor_identifier-first-requires
 transform_member_expression_for_super-accessor_identifier-first-requires t c = record {
-  store = (c.requires.inner_pre.holds.store, (c.requires.frame_lt_cap.0, c.requires.inner_pre.holds.cap_low));
   given_names = c.requires.inner_pre.named;
-  usage_value = c.requires.frame_lt_cap.1;
   at_bound = let h0 = c.requires.inner_bound in let h1 = c.append-callee.ensures.next in omega arith;
   filed = c.requires.inner_pre.holds.filed;
 }
@@ -516,7 +505,7 @@ undressed-sequence-requires t c = (
     c.requires.row_pre.inner,
     (
       (c.requires.row_pre.fit, c.requires.row_pre.bound),
-      let h0 = sequence-size c.args.rows.now c.args.names.now c.args.text.now c.args.made.now c.args.walk c.args.plan c.requires.row_pre.formed c.if-plan.true
+      let h0 = sequence-size c.args.rows.now c.args.names.now c.args.text.now c.args.walk c.args.plan c.requires.row_pre.formed c.if-plan.true
           c.requires.first_value in let h1 = c.requires.none_bound in omega arith,
     ),
   ),
@@ -524,7 +513,7 @@ undressed-sequence-requires t c = (
 
 pub undressed-returns-then-plan : goal.undressed-returns-then-plan
 undressed-returns-then-plan t c =
-    named (sequence-rows c.args.rows.now c.args.names.now c.args.text.now c.args.made.now c.args.walk c.args.plan c.requires.row_pre.formed c.if-plan.true
+    named (sequence-rows c.args.rows.now c.args.names.now c.args.text.now c.args.walk c.args.plan c.requires.row_pre.formed c.if-plan.true
     c.requires.first_value) c.sequence.ensures
 
 pub undressed-kept-requires : goal.undressed-kept-requires
@@ -534,8 +523,8 @@ undressed-kept-requires t c = (
   (
     c.requires.row_pre.inner,
     (
-      subst (λ (o : Becomes). OpLow c.args.walk.cap (op_of o)) c.in-Row.is c.requires.row_pre.low,
-      let h0 = row-size c.args.rows.now c.args.names.now c.args.text.now c.args.made.now c.args.walk c.args.plan c.requires.row_pre.formed c.if-plan.false
+      subst (λ (o : Becomes). OpLow c.args.walk.bindings.cap (op_of o)) c.in-Row.is c.requires.row_pre.low,
+      let h0 = row-size c.args.rows.now c.args.names.now c.args.text.now c.args.walk c.args.plan c.requires.row_pre.formed c.if-plan.false
           c.requires.first_value _ _ _ (ap op_of c.in-Row.is) in let h1 = c.requires.none_bound in omega arith,
     ),
   ),
@@ -547,7 +536,7 @@ undressed-list-requires t c = (
   let m = c.decreases in omega arith,
   (
     c.requires.row_pre.inner,
-    let h0 = drop-size c.args.rows.now c.args.names.now c.args.text.now c.args.made.now c.args.walk c.args.plan c.requires.row_pre.formed c.if-plan.false
+    let h0 = drop-size c.args.rows.now c.args.names.now c.args.text.now c.args.walk c.args.plan c.requires.row_pre.formed c.if-plan.false
         c.requires.first_value (ap op_of c.in-Drop.is) in let h1 = c.requires.none_bound in omega arith,
   ),
 )
@@ -555,19 +544,13 @@ undressed-list-requires t c = (
 pub undressed-captured_identifier-requires : goal.undressed-captured_identifier-requires
 unfolding op_of
 undressed-captured_identifier-requires t c =
-    record {
-      made_len = (
-        c.requires.row_pre.inner.holds.store.long,
-        (
-          c.requires.row_pre.inner.holds.cap_low,
-          (subst (λ (o : Becomes). OpLow c.args.walk.cap
-              (op_of o)) c.in-Name.is c.requires.row_pre.low).1.1,
-        ),
-      );
-      at_bound = let h0 = name-size c.args.rows.now c.args.names.now c.args.text.now c.args.made.now c.args.walk c.args.plan c.requires.row_pre.formed
-          c.if-plan.false c.requires.first_value _ _ (ap op_of c.in-Name.is) in
-          let h1 = c.requires.none_bound in omega arith;
-    }
+    let h0 = name-size c.args.rows.now c.args.names.now c.args.text.now c.args.walk c.args.plan c.requires.row_pre.formed
+    c.if-plan.false c.requires.first_value _ _ (ap op_of c.in-Name.is) in
+    let h1 = c.requires.none_bound in omega arith
+
+pub undressed-invariant_of-opened : goal.undressed-invariant_of-opened
+unfolding op_of
+undressed-invariant_of-opened t c = record { low = (subst (λ (o : Becomes). OpLow c.args.walk.bindings.cap (op_of o)) c.in-Name.is c.requires.row_pre.low).1.1 }
 
 pub undressed-transform_call_expression_for_super-requires : goal.undressed-transform_call_expression_for_super-requires
 unfolding op_of
@@ -578,14 +561,11 @@ undressed-transform_call_expression_for_super-requires t c = (
     (
       (
         c.requires.row_pre.here.this,
-        (
-          (subst (λ (o : Becomes). OpLow c.args.walk.cap
-              (op_of o)) c.in-Call.is c.requires.row_pre.low).1.0,
-          (subst (λ (o : Becomes). OpLow c.args.walk.cap (op_of o)) c.in-Call.is c.requires.row_pre.low).0,
-        ),
+        (subst (λ (o : Becomes). OpLow c.args.walk.bindings.cap
+            (op_of o)) c.in-Call.is c.requires.row_pre.low).1.0,
       ),
-      let h0 = called-size c.args.rows.now c.args.names.now c.args.text.now c.args.made.now c.args.walk c.args.plan c.requires.row_pre.formed c.if-plan.false
-          c.requires.first_value _ _ _ (as_called (ap op_of c.in-Call.is) c.if-called.true) c.requires.row_pre.inner.holds.store c.requires.row_pre.here.this in let
+      let h0 = called-size c.args.rows.now c.args.names.now c.args.text.now c.args.walk c.args.plan c.requires.row_pre.formed c.if-plan.false
+          c.requires.first_value _ _ _ (as_called (ap op_of c.in-Call.is) c.if-called.true) c.args.walk.bindings.store c.requires.row_pre.here.this in let
           h1 = c.requires.none_bound in omega arith,
     ),
   ),
@@ -594,8 +574,8 @@ undressed-transform_call_expression_for_super-requires t c = (
 pub undressed-returns-then-called : goal.undressed-returns-then-called
 unfolding op_of
 undressed-returns-then-called t c =
-    named (called-rows c.args.rows.now c.args.names.now c.args.text.now c.args.made.now c.args.walk c.args.plan c.requires.row_pre.formed c.if-plan.false
-    c.requires.first_value _ _ _ (as_called (ap op_of c.in-Call.is) c.if-called.true) c.requires.row_pre.inner.holds.store c.requires.row_pre.here.this)
+    named (called-rows c.args.rows.now c.args.names.now c.args.text.now c.args.walk c.args.plan c.requires.row_pre.formed c.if-plan.false
+    c.requires.first_value _ _ _ (as_called (ap op_of c.in-Call.is) c.if-called.true) c.args.walk.bindings.store c.requires.row_pre.here.this)
     c.transform_call_expression_for_super.ensures
 
 pub undressed-transform_member_expression_for_super-requires : goal.undressed-transform_member_expression_for_super-requires
@@ -605,12 +585,9 @@ undressed-transform_member_expression_for_super-requires t c = (
   (
     c.requires.row_pre.inner,
     (
-      (
-        (subst (λ (o : Becomes). OpLow c.args.walk.cap
-            (op_of o)) c.in-Call.is c.requires.row_pre.low).1.0,
-        (subst (λ (o : Becomes). OpLow c.args.walk.cap (op_of o)) c.in-Call.is c.requires.row_pre.low).0,
-      ),
-      let h0 = call-size c.args.rows.now c.args.names.now c.args.text.now c.args.made.now c.args.walk c.args.plan c.requires.row_pre.formed c.if-plan.false
+      (subst (λ (o : Becomes). OpLow c.args.walk.bindings.cap
+          (op_of o)) c.in-Call.is c.requires.row_pre.low).1.0,
+      let h0 = call-size c.args.rows.now c.args.names.now c.args.text.now c.args.walk c.args.plan c.requires.row_pre.formed c.if-plan.false
           c.requires.first_value _ _ _ (as_called (ap op_of c.in-Call.is) c.if-called.false) in let h1 = c.requires.none_bound in omega arith,
     ),
   ),
@@ -619,25 +596,25 @@ undressed-transform_member_expression_for_super-requires t c = (
 pub undressed-returns-in-Row : goal.undressed-returns-in-Row
 unfolding op_of
 undressed-returns-in-Row t c =
-    named (row-rows c.args.rows.now c.args.names.now c.args.text.now c.args.made.now c.args.walk c.args.plan c.requires.row_pre.formed c.if-plan.false
+    named (row-rows c.args.rows.now c.args.names.now c.args.text.now c.args.walk c.args.plan c.requires.row_pre.formed c.if-plan.false
     c.requires.first_value _ _ _ (ap op_of c.in-Row.is)) c.kept.ensures
 
 pub undressed-returns-in-Drop : goal.undressed-returns-in-Drop
 unfolding op_of
 undressed-returns-in-Drop t c =
-    named (drop-rows c.args.rows.now c.args.names.now c.args.text.now c.args.made.now c.args.walk c.args.plan c.requires.row_pre.formed c.if-plan.false
+    named (drop-rows c.args.rows.now c.args.names.now c.args.text.now c.args.walk c.args.plan c.requires.row_pre.formed c.if-plan.false
     c.requires.first_value (ap op_of c.in-Drop.is)) c.list.ensures
 
 pub undressed-returns-in-Name : goal.undressed-returns-in-Name
 unfolding op_of
 undressed-returns-in-Name t c =
-    named (captured-rows c.args.rows.now c.args.names.now c.args.text.now c.args.made.now c.args.walk c.args.plan c.requires.row_pre.formed c.if-plan.false
-    c.requires.first_value _ _ (ap op_of c.in-Name.is) c.requires.row_pre.inner.holds.store (subst (λ (o : Becomes). OpLow c.args.walk.cap
-    (op_of o)) c.in-Name.is c.requires.row_pre.low).0 (subst (λ (o : Becomes). OpLow c.args.walk.cap (op_of o)) c.in-Name.is c.requires.row_pre.low).1.0 (subst
-    (λ (o : Becomes). OpLow c.args.walk.cap (op_of o)) c.in-Name.is c.requires.row_pre.low).1.1) c.captured_identifier.ensures
+    named (captured-rows c.args.rows.now c.args.names.now c.args.text.now c.args.walk c.args.plan c.requires.row_pre.formed c.if-plan.false
+    c.requires.first_value _ _ (ap op_of c.in-Name.is) c.args.walk.bindings.store (subst (λ (o : Becomes). OpLow c.args.walk.bindings.cap
+    (op_of o)) c.in-Name.is c.requires.row_pre.low).0 (subst (λ (o : Becomes). OpLow c.args.walk.bindings.cap (op_of o)) c.in-Name.is c.requires.row_pre.low).1.0 (subst
+    (λ (o : Becomes). OpLow c.args.walk.bindings.cap (op_of o)) c.in-Name.is c.requires.row_pre.low).1.1) c.captured_identifier.ensures
 
 pub undressed-returns-else-called : goal.undressed-returns-else-called
 unfolding op_of
 undressed-returns-else-called t c =
-    named (call_rows c.args.rows.now c.args.names.now c.args.text.now c.args.made.now c.args.walk c.args.plan c.requires.row_pre.formed c.if-plan.false
+    named (call_rows c.args.rows.now c.args.names.now c.args.text.now c.args.walk c.args.plan c.requires.row_pre.formed c.if-plan.false
     c.requires.first_value _ _ _ (as_called (ap op_of c.in-Call.is) c.if-called.false)) c.transform_member_expression_for_super.ensures

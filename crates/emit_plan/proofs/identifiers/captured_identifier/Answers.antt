@@ -1,10 +1,9 @@
 -- `emit_plan::identifiers::captured_identifier` meets its contract. Assumes nothing.
-use borrow.Author.Tests.{ne_eqb}
 use Rattle.output.proofs.Writing.{leaf}
 use Rattle.emit_plan.proofs.identifiers.captured_identifier.Goals as goal
 
-pub returns-then-usage-eq1 : goal.returns-then-usage-eq1
-returns-then-usage-eq1 c = rw c.if-usage-eq1.true (leaf c.append.ensures)
+pub returns-in-This : goal.returns-in-This
+returns-in-This c = rw (c.in-This.is, ← c.this_of.ensures) (leaf c.append.ensures)
 
-pub returns : goal.returns
-returns c = rw (ne_eqb c.args.usage 1 c.if-usage-eq1.false) (leaf c.append-2.ensures)
+pub returns-in-Arguments : goal.returns-in-Arguments
+returns-in-Arguments c = rw (c.in-Arguments.is, ← c.arguments_of.ensures) (leaf c.append-in-Arguments.ensures)

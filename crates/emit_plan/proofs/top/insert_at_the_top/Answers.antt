@@ -7,20 +7,21 @@ use Rattle.grammar.specs.Kinds.{Program}
 use Rattle.forest.specs.Forest.{Rows.none, size}
 use Rattle.steps.specs.Slots.{late_body}
 use Rattle.steps.specs.TopInsertion.{var_first}
+use Rattle.passes.specs.declared.slots.Slot.TheVariants.{LateBody}
+use Rattle.passes.proofs.Numbers.{slot_same}
+use Rattle.passes.specs.View.{slot_number}
 use Rattle.insertion.specs.Declarations.{frame_decls}
 use Rattle.output.proofs.Writing.{nothing}
 use Rattle.emit_plan.proofs.top.insert_at_the_top.Goals as goal
 
 pub insert_variable_statement_at_the_top_of_statements-requires : goal.insert_variable_statement_at_the_top_of_statements-requires
 insert_variable_statement_at_the_top_of_statements-requires c =
-    record {
-      held = c.requires.held;
-      none_bound = subst (λ (y : Bool). c.args.at + size (cond y (var_first (frame_decls c.args.made.now c.args.walk.cap c.args.walk.count c.args.frame
-          (eqb c.args.kind Program) (eqb c.args.slot late_body)) none) none) < 2 ^ 32) (sym c.closes-closing.ensures ∙ c.if-closing.true) c.requires.frame_bound;
-    }
+    rw (c.eq-late.ensures ∙ slot_same c.args.slot LateBody) (subst (λ (y : Bool). c.args.at + size (cond y (var_first (frame_decls c.args.walk.bindings.made.now
+    c.args.walk.bindings.cap c.args.walk.bindings.count c.args.frame (eqb c.args.kind Program) (eqb (slot_number c.args.slot) late_body)) none) none) < 2 ^ 32)
+    (sym c.closes-closing.ensures ∙ c.if-closing.true) c.requires.frame_bound)
 
 pub returns-then-closing : goal.returns-then-closing
-returns-then-closing c = rw (sym c.closes-closing.ensures ∙ c.if-closing.true) c.insert_variable_statement_at_the_top_of_statements.ensures
+returns-then-closing c = rw (sym c.closes-closing.ensures ∙ c.if-closing.true, ← (c.eq-late.ensures ∙ slot_same c.args.slot LateBody)) c.insert_variable_statement_at_the_top_of_statements.ensures
 
 pub returns : goal.returns
 returns c = rw (sym c.closes-closing.ensures ∙ c.if-closing.false) (nothing c.args.out.now c.args.at)

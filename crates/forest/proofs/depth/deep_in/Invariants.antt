@@ -1,5 +1,5 @@
 -- `forest::depth::deep_in` meets its contract. Assumes nothing.
-use Prim.Native.Nat.{ℕ, ◌-◌}
+use Prim.Native.Nat.{ℕ}
 use mathlib.Core.Path.{◌≡◌}
 use lib.Dec.{ltb}
 use lib.ListN.{length, get_or}
@@ -10,6 +10,3 @@ use Rattle.forest.proofs.depth.deep_in.Given as goal
 
 abbrev pub invariant-loop-i : goal.invariant-loop-i
 invariant-loop-i l = Seek (λ j. ltb l.most (depth_at (words l.s) j)) l.n 0 l.i × ((length l.depth ≡ length l.initial.depth) × ((j : ℕ) → get_or l.depth j 0 ≡ told_by (words l.s) deeper 0 l.i j))
-
-abbrev pub decreases-loop-i : goal.decreases-loop-i
-decreases-loop-i l = l.n - l.i

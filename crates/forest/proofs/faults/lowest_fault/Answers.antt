@@ -1,56 +1,68 @@
 -- `forest::faults::lowest_fault` meets its contract. Assumes nothing.
-use Prim.Native.Nat.{ℕ, ◌≤◌}
+use Rattle.std.specs.Prelude.{Some, None}
+use mathlib.Core.List.{List}
+use Prim.Native.Nat.{ℕ, ◌+◌, ◌<◌, ◌≤◌, ◌%◌}
 use mathlib.Core.Path.{◌≡◌, refl, sym, ap, ◌∙◌}
+use lib.Dec.{ltb, leb}
 use lib.ListN.{get_or, set, length-set}
 use Rattle.names.specs.Words.{words, end_at}
-use Rattle.forest.specs.Told.{top_mark, marks}
+use Rattle.grammar.specs.Codes.{kind_number}
+use Rattle.forest.specs.Faults.{kids}
+use Rattle.forest.specs.Told.{told_in, says, top_mark, marks}
 use Rattle.forest.proofs.Telling.{told-start}
-use Rattle.forest.proofs.Visits.{visit-start, visit-next, visit_done, bad-early, bad-late, end-within, kind-below}
+use Rattle.forest.proofs.Visits.{early-read, late-read, listed-same, visit-start, visit-next, visit_done, bad-early, bad-late, end-within, kind-listed}
 use native.Mathlib.Omega.{arith}
 use Rattle.forest.proofs.faults.lowest_fault.Goals as goal
 
-pub loop-i-init : goal.loop-i-init
-loop-i-init c =
+pub loop-row-init : goal.loop-row-init
+loop-row-init c =
     let ws = words c.args.s.now in
     let top : c.top_mark.result ≡ top_mark (end_at ws 0) c.args.n = c.top_mark.ensures ∙ ap (λ (x : ℕ). top_mark x c.args.n) c.cell.ensures.0 in
     visit-start _ _ _ _ _ refl (λ j. ap (λ (x : ℕ). get_or (set c.args.marks.now 0 x) j 0) top ∙ told-start ws (marks ws) (top_mark (end_at ws 0) c.args.n) c.args.marks.now (omega arith) c.requires.fresh.1 j)
 
-pub bounds-marks-i : goal.bounds-marks-i
-bounds-marks-i c = let l = c.loop-i.invariant.long ∙ length-set c.args.marks.now 0 c.top_mark.result in omega arith
+-- a mark holds a place
+low : (m : ℕ) → m % 16 < 16
+low m = omega arith
 
-pub shape_of-marks-then-early-ne0 : goal.shape_of-marks-then-early-ne0
-shape_of-marks-then-early-ne0 c = c.loop-i.invariant.long ∙ length-set c.args.marks.now 0 c.top_mark.result
-
-pub returns-then-early-ne0 : goal.returns-then-early-ne0
-returns-then-early-ne0 c =
-    bad-early _ _ _ _ _ _ _ _ _ _ _ c.loop-i.invariant c.loop-i-test.true c.cell-k.ensures.0 c.cell-a.ensures.0 c.cell-name.ensures.0 c.cell-e.ensures.0 refl _ c.early_fault-early.ensures c.if-early-ne0.true
+pub returns-in-Some : goal.returns-in-Some
+returns-in-Some c =
+    let k = c.cell-in-loop-row.result in
+    let m = get_or c.loop-row.marks c.loop-row.row 0 in
+    bad-early _ _ _ _ _ _ _ _ _ _ _ c.loop-row.invariant c.loop-row-test.true c.cell-in-loop-row.ensures.0 c.cell-a.ensures.0 c.cell-name.ensures.0 c.cell-e.ensures.0 refl _
+    (sym (early-read (m % 16) _ k _ c.from-place.ensures (low m) c.from-kind.ensures _ _ c.early_fault.ensures) ∙ c.in-Some.is)
 
 pub mark_children-count-requires : goal.mark_children-count-requires
 mark_children-count-requires c =
-    let l = c.loop-i.invariant.long ∙ length-set c.args.marks.now 0 c.top_mark.result in
-    let within : c.cell-e.result ≤ c.args.n = end-within _ _ _ _ _ _ _ _ _ _ _ c.loop-i.invariant c.loop-i-test.true c.cell-k.ensures.0 c.cell-a.ensures.0 c.cell-name.ensures.0 c.cell-e.ensures.0 refl
-    (sym c.early_fault-early.ensures ∙ c.if-early-ne0.false) in
+    let k = c.cell-in-loop-row.result in
+    let m = get_or c.loop-row.marks c.loop-row.row 0 in
+    let none = sym (early-read (m % 16) _ k _ c.from-place.ensures (low m) c.from-kind.ensures _ _ c.early_fault.ensures) ∙ c.in_default.is in
+    let l = c.loop-row.invariant.long ∙ length-set c.args.marks.now 0 c.top_mark.result in
+    let within : c.cell-e.result ≤ c.args.n =
+    end-within _ _ _ _ _ _ _ _ _ _ _ c.loop-row.invariant c.loop-row-test.true c.cell-in-loop-row.ensures.0 c.cell-a.ensures.0 c.cell-name.ensures.0 c.cell-e.ensures.0 refl none in
     omega arith
 
-pub late_fault-late-requires : goal.late_fault-late-requires
-late_fault-late-requires c =
-    kind-below _ _ _ _ _ _ _ _ _ _ _ c.loop-i.invariant c.loop-i-test.true c.cell-k.ensures.0 c.cell-a.ensures.0 c.cell-name.ensures.0 c.cell-e.ensures.0 refl (sym c.early_fault-early.ensures ∙ c.if-early-ne0.false)
+pub returns-in-Some-late_fault : goal.returns-in-Some-late_fault
+returns-in-Some-late_fault c =
+    let k = c.cell-in-loop-row.result in
+    let m = get_or c.loop-row.marks c.loop-row.row 0 in
+    let none = sym (early-read (m % 16) _ k _ c.from-place.ensures (low m) c.from-kind.ensures _ _ c.early_fault.ensures) ∙ c.in_default.is in
+    let kind : kind_number c.from-kind.result ≡ k = c.from-kind.ensures ∙ listed-same k
+    (kind-listed _ _ _ _ _ _ _ _ _ _ _ c.loop-row.invariant c.loop-row-test.true c.cell-in-loop-row.ensures.0 c.cell-a.ensures.0 c.cell-name.ensures.0 c.cell-e.ensures.0 refl none) in
+    bad-late _ _ _ _ _ _ _ _ _ _ _ c.loop-row.invariant c.loop-row-test.true c.cell-in-loop-row.ensures.0 c.cell-a.ensures.0 c.cell-name.ensures.0 c.cell-e.ensures.0 refl _
+    none c.mark_children-count.ensures.0 _ (sym (late-read (m % 16) _ k _ c.from-place.ensures (low m) kind _ _ _ _ c.late_fault.ensures) ∙ c.in-Some-late_fault.is)
 
-pub shape_of-marks-then-late-ne0 : goal.shape_of-marks-then-late-ne0
-shape_of-marks-then-late-ne0 c = let l = c.loop-i.invariant.long ∙ length-set c.args.marks.now 0 c.top_mark.result in omega arith
-
-pub returns-then-late-ne0 : goal.returns-then-late-ne0
-returns-then-late-ne0 c =
-    bad-late _ _ _ _ _ _ _ _ _ _ _ c.loop-i.invariant c.loop-i-test.true c.cell-k.ensures.0 c.cell-a.ensures.0 c.cell-name.ensures.0 c.cell-e.ensures.0 refl _
-    (sym c.early_fault-early.ensures ∙ c.if-early-ne0.false) c.mark_children-count.ensures.0 _ c.late_fault-late.ensures c.if-late-ne0.true
-
-pub loop-i-preserved : goal.loop-i-preserved
-loop-i-preserved c =
-    visit-next _ _ _ _ _ _ _ _ _ _ _ c.loop-i.invariant c.loop-i-test.true c.cell-k.ensures.0 c.cell-a.ensures.0 c.cell-name.ensures.0 c.cell-e.ensures.0 refl _
-    (sym c.early_fault-early.ensures ∙ c.if-early-ne0.false) c.mark_children-count.ensures.0 (sym c.late_fault-late.ensures ∙ c.if-late-ne0.false) _ (omega (arith, c.loop-i.invariant.long)) c.mark_children-count.ensures.1
-
-pub shape_of-marks : goal.shape_of-marks
-shape_of-marks c = c.loop-i.invariant.long ∙ length-set c.args.marks.now 0 c.top_mark.result
+pub loop-row-preserved : goal.loop-row-preserved
+loop-row-preserved c =
+    let k = c.cell-in-loop-row.result in
+    let m = get_or c.loop-row.marks c.loop-row.row 0 in
+    let none = sym (early-read (m % 16) _ k _ c.from-place.ensures (low m) c.from-kind.ensures _ _ c.early_fault.ensures) ∙ c.in_default.is in
+    let kind : kind_number c.from-kind.result ≡ k = c.from-kind.ensures ∙ listed-same k
+    (kind-listed _ _ _ _ _ _ _ _ _ _ _ c.loop-row.invariant c.loop-row-test.true c.cell-in-loop-row.ensures.0 c.cell-a.ensures.0 c.cell-name.ensures.0 c.cell-e.ensures.0 refl none) in
+    let ws = words c.args.s.now in
+    let e = c.cell-e.result in
+    visit-next _ _ _ _ _ _ _ _ _ _ _ c.loop-row.invariant c.loop-row-test.true c.cell-in-loop-row.ensures.0 c.cell-a.ensures.0 c.cell-name.ensures.0 c.cell-e.ensures.0 refl _
+    none c.mark_children-count.ensures.0 (sym (late-read (m % 16) _ k _ c.from-place.ensures (low m) kind _ _ _ _ c.late_fault.ensures) ∙ c.in_default-late_fault.is) _ (omega (arith, c.loop-row.invariant.long))
+    (λ j. c.mark_children-count.ensures.1 j ∙ ap (λ (x : ℕ). told_in (says ws x c.cell-a.result e) 0 (kids ws e (c.loop-row.row + 1) e) j (get_or c.loop-row.marks j 0)) kind)
 
 pub returns : goal.returns
-returns c = visit_done _ _ _ _ _ _ c.loop-i.invariant c.loop-i-test.false
+returns c = visit_done _ _ _ _ _ _ c.loop-row.invariant (omega arith)

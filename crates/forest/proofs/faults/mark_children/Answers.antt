@@ -4,6 +4,7 @@ use mathlib.Core.Path.{◌≡◌, refl, ◌∙◌}
 use borrow.Author.Tests.{ltb-true}
 use lib.ListN.{length, length-set}
 use Rattle.names.specs.Words.{words, end_at}
+use Rattle.grammar.specs.Codes.{kind_number}
 use Rattle.grammar.specs.Grammar.{place_of}
 use Rattle.forest.specs.Told.{says}
 use Rattle.names.proofs.Bools.{and_left}
@@ -16,13 +17,13 @@ use Rattle.forest.proofs.faults.mark_children.Goals as goal
 pub returns-then-e-c0 : goal.returns-then-e-c0
 returns-then-e-c0 c =
     let ws = words c.args.s.now in
-    let say = says ws c.args.k c.args.a c.args.e in
+    let say = says ws (kind_number c.args.kind) c.args.a c.args.e in
     let marks = c.args.marks.now in
     let t = tell_done ws say c.args.e (length marks) c.args.c0 marks marks c.args.c0 0 (tell_start ws say c.args.e (length marks) c.args.c0 marks refl) c.if-e-c0.true in
     (t.many, t.each)
 
 pub loop-c-init : goal.loop-c-init
-loop-c-init c = (tell_start _ _ _ _ _ _ refl, (omega arith, c.place_of-place.ensures))
+loop-c-init c = (tell_start _ _ _ _ _ _ refl, (omega arith, (c.number-place.ensures.0 ∙ c.place_of-2.ensures, c.number-place.ensures.1)))
 
 pub bounds-marks-c : goal.bounds-marks-c
 bounds-marks-c c = let l = c.loop-c.invariant.0.long in omega arith
@@ -35,8 +36,8 @@ loop-c-preserved c =
     let ws = words c.args.s.now in
     let x : c.cell-x.result ≡ end_at ws c.loop-c.c = c.cell-x.ensures.0 in
     let past : c.loop-c.c < c.cell-x.result = ltb-true _ _ (and_left _ _ c.if-c-x.true) in
-    let next : c.place_of-later.result ≡ place_of c.args.k c.args.a (c.loop-c.pos + 1) = c.place_of-later.ensures.0 ∙ later_all _ _ _ (λ e. omega arith) in
-    (tell-next _ _ _ _ _ _ _ _ _ c.loop-c.invariant.0 c.loop-c-test.true c.requires.1.1 _ (said_good ws _ _ _ _ _ _ x c.if-c-x.true c.loop-c.invariant.1.1.0) _ x c.if-c-x.true, (omega arith, (next, c.place_of-later.ensures.1)))
+    let next : c.number-later.result ≡ place_of (kind_number c.args.kind) c.args.a (c.loop-c.pos + 1) = c.number-later.ensures.0 ∙ c.place_of.ensures ∙ later_all _ _ _ (λ e. omega arith) in
+    (tell-next _ _ _ _ _ _ _ _ _ c.loop-c.invariant.0 c.loop-c-test.true c.requires.1.1 _ (said_good ws _ _ _ _ _ _ x c.if-c-x.true c.loop-c.invariant.1.1.0) _ x c.if-c-x.true, (omega arith, (next, c.number-later.ensures.1)))
 
 pub overflow_add-marks : goal.overflow_add-marks
 overflow_add-marks c = let l = c.loop-c.invariant.1.1.1 in omega arith

@@ -8,14 +8,13 @@ use Rattle.made_names.proofs.sizes.+over.Goals as goal
 
 pub over-requires : goal.over-requires
 over-requires t c =
-    let a = c.args in
-    let f = few-entries c.requires.sound (names_in a.names.now + records_in a.bindings.now) (omega arith) in
-    let k = c.requires.size_nonzero in
-    let l = c.if-size-names.true in
-    (omega (arith, c.records_in.ensures, c.decreases), (c.requires.sound, omega arith))
+    let s = c.args.checked.script in
+    let f = few-entries c.args.checked.sound (names_in s.names.now + records_in s.bindings.now) (omega arith) in
+    let l = c.if-size-checked.true in
+    (omega (arith, c.records_in.ensures, c.decreases), omega arith)
 
-pub below_69632-requires : goal.below_69632-requires
-below_69632-requires t c =
-    let a = c.args in
-    let f = few-entries c.requires.sound (names_in a.names.now + records_in a.bindings.now) (omega arith) in
-    record { sound = c.requires.sound; bindings_bound = omega arith }
+pub below-requires-2-clause-bindings_bound : goal.below-requires-2-clause-bindings_bound
+below-requires-2-clause-bindings_bound t c =
+    let s = c.args.checked.script in
+    let f = few-entries c.args.checked.sound (names_in s.names.now + records_in s.bindings.now) (omega arith) in
+    omega arith

@@ -13,19 +13,13 @@ returns-then-out_text-bytes c =
     no_text _ _ _ c.number_all-bytes.ensures _ _ (omega (arith, c.if-out_pairs-count.false, c.records_in-count.ensures)) c.if-out_text-bytes.true
 
 pub write_names-requires : goal.write_names-requires
-write_names-requires c = record {
-  sound = c.requires.sound;
-  bindings_in_bounds = (
-    omega (arith, c.requires.empty.numbers_long, c.number_all-bytes.auto.numbers),
-    omega (arith, c.if-out_pairs-count.false, c.records_in-count.ensures),
-  );
-}
+write_names-requires c = (omega (arith, c.requires.empty.numbers_long, c.number_all-bytes.auto.numbers), omega (arith, c.if-out_pairs-count.false, c.records_in-count.ensures))
 
 pub overflow_cast-result : goal.overflow_cast-result
-overflow_cast-result c = let l = few-records _ _ _ c.requires.sound.front in omega (arith, c.records_in-count.ensures)
+overflow_cast-result c = let l = few-records _ _ _ c.args.checked.sound.front in omega (arith, c.records_in-count.ensures)
 
 pub overflow_cast-result-2 : goal.overflow_cast-result-2
-overflow_cast-result-2 c = let l = few-records _ _ _ c.requires.sound.front in omega (arith, c.number_all-bytes.ensures.short)
+overflow_cast-result-2 c = let l = few-records _ _ _ c.args.checked.sound.front in omega (arith, c.number_all-bytes.ensures.short)
 
 pub returns : goal.returns
 returns c =

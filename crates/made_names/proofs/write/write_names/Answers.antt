@@ -11,39 +11,39 @@ pub loop-k-init : goal.loop-k-init
 loop-k-init c = writing_start _ _ _ _
 
 pub overflow_add-b : goal.overflow_add-b
-overflow_add-b c = let l = few-records _ _ _ c.requires.sound.front in let m = c.loop-k.invariant in omega (arith, m.few, c.records_in-count.ensures)
+overflow_add-b c = let l = few-records _ _ _ c.args.checked.sound.front in let m = c.loop-k.invariant in omega (arith, m.few, c.records_in-count.ensures)
 
 pub overflow_add-n : goal.overflow_add-n
 overflow_add-n c =
-    let l = few-records _ _ _ c.requires.sound.front in
+    let l = few-records _ _ _ c.args.checked.sound.front in
     let m = c.loop-k.invariant in
-    let n = (fronted _ _ _ c.requires.sound.front).sizes.few in
+    let n = (fronted _ _ _ c.args.checked.sound.front).sizes.few in
     omega (arith, m.few, c.records_in-count.ensures)
 
 pub offset_bounds-numbers-named : goal.offset_bounds-numbers-named
 offset_bounds-numbers-named c =
-    let l = few-records _ _ _ c.requires.sound.front in
+    let l = few-records _ _ _ c.args.checked.sound.front in
     let m = c.loop-k.invariant in
-    let n = (fronted _ _ _ c.requires.sound.front).sizes.few in
+    let n = (fronted _ _ _ c.args.checked.sound.front).sizes.few in
     omega (arith, m.few, c.records_in-count.ensures)
 
 pub bounds-numbers-named : goal.bounds-numbers-named
-bounds-numbers-named c = omega (arith, c.requires.bindings_in_bounds.0, c.records_in-count.ensures)
+bounds-numbers-named c = omega (arith, c.requires.0, c.records_in-count.ensures)
 
 pub overflow_cast-b : goal.overflow_cast-b
-overflow_cast-b c = let l = few-records _ _ _ c.requires.sound.front in let m = c.loop-k.invariant in omega (arith, m.few, c.records_in-count.ensures)
+overflow_cast-b c = let l = few-records _ _ _ c.args.checked.sound.front in let m = c.loop-k.invariant in omega (arith, m.few, c.records_in-count.ensures)
 
 pub put_candidate-end-requires : goal.put_candidate-end-requires
 put_candidate-end-requires c =
-    let l = few-records _ _ _ c.requires.sound.front in
+    let l = few-records _ _ _ c.args.checked.sound.front in
     let m = c.loop-k.invariant in
     record {
-      text_value = (c.requires.sound.front, sound-at _ _ _ c.requires.sound (c.loop-k.k + 1) (omega arith) (omega (arith, c.records_in-count.ensures)));
+      text_value = (c.args.checked.sound.front, sound-at _ _ _ c.args.checked.sound (c.loop-k.k + 1) (omega arith) (omega (arith, c.records_in-count.ensures)));
       at_bound = omega (arith, m.low, m.few);
     }
 
 pub overflow_cast-at : goal.overflow_cast-at
-overflow_cast-at c = let l = few-records _ _ _ c.requires.sound.front in let m = c.loop-k.invariant in omega (arith, m.low, m.few)
+overflow_cast-at c = let l = few-records _ _ _ c.args.checked.sound.front in let m = c.loop-k.invariant in omega (arith, m.low, m.few)
 
 pub overflow_sub-end : goal.overflow_sub-end
 overflow_sub-end c = omega (arith, c.put_candidate-end.ensures.0.next)
@@ -52,10 +52,7 @@ pub overflow_cast-end : goal.overflow_cast-end
 overflow_cast-end c = omega (arith, c.put_candidate-end.ensures.1)
 
 pub put_pair-requires : goal.put_pair-requires
-put_pair-requires c = let m = c.loop-k.invariant in omega (arith, m.same-pairs, c.requires.bindings_in_bounds.1, c.records_in-count.ensures)
-
-pub loop-k-smaller : goal.loop-k-smaller
-loop-k-smaller c = omega (arith, c.records_in-count.ensures)
+put_pair-requires c = let m = c.loop-k.invariant in omega (arith, m.same-pairs, c.requires.1, c.records_in-count.ensures)
 
 pub loop-k-preserved : goal.loop-k-preserved
 loop-k-preserved c =

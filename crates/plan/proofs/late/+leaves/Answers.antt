@@ -2,6 +2,8 @@
 use mathlib.Core.Path.{refl, ◌∙◌}
 use native.Mathlib.Omega.{arith}
 use Rattle.steps.specs.Outcome.{names_of}
+use Rattle.passes.specs.declared.slots.Slot.TheVariants.{Dropped}
+use Rattle.passes.proofs.Numbers.{slot_same}
 use Rattle.acts.specs.View.{switches_of}
 use Rattle.plan.specs.Placing.{place_of}
 use Rattle.plan.proofs.Leaving.{leaves-here, leaves-inside, leaves_none, here_as, no_function, not-down, children-say, children-range, children_fewer, later_fewer, leaving_next}
@@ -17,8 +19,8 @@ kind_at-kind-requires t c = let b = c.requires.ranged.bytes in let r = c.loop-i.
 pub end_at-stop-requires : goal.end_at-stop-requires
 end_at-stop-requires t c = let b = c.requires.ranged.bytes in let r = c.loop-i.invariant.range.within in let l = c.loop-i-test.true in omega arith
 
-pub returns-then-kind-slot : goal.returns-then-kind-slot
-returns-then-kind-slot t c =
+pub returns-then-kind-eq : goal.returns-then-kind-eq
+returns-then-kind-eq t c =
     let a = c.args in
     let g = c.requires.ranged.nested in
     let R = c.loop-i.invariant.range in
@@ -28,7 +30,7 @@ returns-then-kind-slot t c =
     let q = place_of c.loop-i.q in
     let more = place_of a.more in
     let k = c.kind_at-kind in
-    leaves-here _ _ g N w q more _ _ R lt (here_as k.ensures.0 c.slot-slot.ensures ∙ c.if-kind-slot.true) ∙ c.loop-i.invariant.same
+    leaves-here _ _ g N w q more _ _ R lt (here_as k.ensures.0 (c.eq.ensures ∙ slot_same c.slot-slot.result Dropped) c.slot-slot.ensures ∙ c.if-kind-eq.true) ∙ c.loop-i.invariant.same
 
 pub overflow_add-first : goal.overflow_add-first
 overflow_add-first t c = let r = c.loop-i.invariant.range.within in let l = c.loop-i-test.true in let f = c.requires.ranged.few in omega arith
@@ -64,7 +66,7 @@ returns-then-leaves t c =
     let f = no_function k.result (c.loop-i.i + 1) x.result c.if-kind-first.true in
     let takes = c.row_act-act.ensures.takes in
     let said = children-say _ _ g N w q more _ _ R lt (λ h. f (k.ensures.0 ∙ h)) c.leaves.result _ _ x.result takes.first takes.later x.ensures.0 c.leaves.ensures in
-    leaves-inside _ _ g N w q more _ _ R lt (here_as k.ensures.0 c.slot-slot.ensures ∙ c.if-kind-slot.false) (said ∙ c.if-leaves.true) ∙ c.loop-i.invariant.same
+    leaves-inside _ _ g N w q more _ _ R lt (here_as k.ensures.0 (c.eq.ensures ∙ slot_same c.slot-slot.result Dropped) c.slot-slot.ensures ∙ c.if-kind-eq.false) (said ∙ c.if-leaves.true) ∙ c.loop-i.invariant.same
 
 pub loop-i-smaller-else-leaves : goal.loop-i-smaller-else-leaves
 loop-i-smaller-else-leaves t c =
@@ -85,7 +87,7 @@ loop-i-preserved-else-leaves t c =
     let f = no_function k.result (c.loop-i.i + 1) x.result c.if-kind-first.true in
     let takes = c.row_act-act.ensures.takes in
     let said = children-say _ _ g N w q more _ _ R lt (λ h. f (k.ensures.0 ∙ h)) c.leaves.result _ _ x.result takes.first takes.later x.ensures.0 c.leaves.ensures in
-    leaving_next _ _ g _ _ R lt x.result x.ensures.0 N w (place_of a.one) more q a.from c.loop-i.invariant (here_as k.ensures.0 c.slot-slot.ensures ∙ c.if-kind-slot.false) (said ∙ c.if-leaves.false)
+    leaving_next _ _ g _ _ R lt x.result x.ensures.0 N w (place_of a.one) more q a.from c.loop-i.invariant (here_as k.ensures.0 (c.eq.ensures ∙ slot_same c.slot-slot.result Dropped) c.slot-slot.ensures ∙ c.if-kind-eq.false) (said ∙ c.if-leaves.false)
 
 pub loop-i-smaller : goal.loop-i-smaller
 loop-i-smaller t c =
@@ -104,7 +106,7 @@ loop-i-preserved t c =
     let k = c.kind_at-kind in
     let x = c.end_at-stop in
     let none = not-down _ _ g N w q more _ _ R lt k.result x.result k.ensures.0 x.ensures.0 c.if-kind-first.false in
-    leaving_next _ _ g _ _ R lt x.result x.ensures.0 N w (place_of a.one) more q a.from c.loop-i.invariant (here_as k.ensures.0 c.slot-slot.ensures ∙ c.if-kind-slot.false) none
+    leaving_next _ _ g _ _ R lt x.result x.ensures.0 N w (place_of a.one) more q a.from c.loop-i.invariant (here_as k.ensures.0 (c.eq.ensures ∙ slot_same c.slot-slot.result Dropped) c.slot-slot.ensures ∙ c.if-kind-eq.false) none
 
 pub returns : goal.returns
 returns t c =

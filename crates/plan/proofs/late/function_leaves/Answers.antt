@@ -9,6 +9,8 @@ use Rattle.steps.specs.Outcome.{names_of}
 use Rattle.steps.specs.Slots.{free}
 use Rattle.steps.specs.Acts.{Ctx}
 use Rattle.steps.specs.Context.{spot}
+use Rattle.passes.specs.declared.slots.Slot.TheVariants.{OfMethod}
+use Rattle.passes.proofs.Numbers.{slot_same}
 use Rattle.acts.specs.View.{switches_of}
 use Rattle.plan.proofs.Frames.{params_below, body_below}
 use Rattle.plan.proofs.Leaving.{leaves-from}
@@ -18,16 +20,12 @@ pub end_at-stop-requires : goal.end_at-stop-requires
 end_at-stop-requires c = let b = c.requires.at.bytes in let r = c.requires.at.row in omega arith
 
 pub placed-requires : goal.placed-requires
-placed-requires c = record {
-  frames_below = params_below (switches_of c.args.switches) c.args.i c.args.attr _ c.in_params.ensures (let r = c.requires.at.row in let f = c.requires.at.few in omega arith) c.spot-spot.ensures.frames_below;
-  slot_bound = omega arith;
-}
+placed-requires c =
+    params_below (switches_of c.args.switches) c.args.i c.args.attr _ c.in_params.ensures (let r = c.requires.at.row in let f = c.requires.at.few in omega arith) c.spot-spot.ensures.frames_below
 
 pub placed-requires-2 : goal.placed-requires-2
-placed-requires-2 c = record {
-  frames_below = body_below (switches_of c.args.switches) c.args.i c.args.attr _ c.in_body.ensures (let r = c.requires.at.row in let f = c.requires.at.few in omega arith) c.spot-spot.ensures.frames_below;
-  slot_bound = omega arith;
-}
+placed-requires-2 c =
+    body_below (switches_of c.args.switches) c.args.i c.args.attr _ c.in_body.ensures (let r = c.requires.at.row in let f = c.requires.at.few in omega arith) c.spot-spot.ensures.frames_below
 
 pub overflow_add-i : goal.overflow_add-i
 overflow_add-i c = let f = c.requires.at.few in let r = c.requires.at.row in omega arith
@@ -40,4 +38,5 @@ leaves-requires c = record {
 
 pub returns : goal.returns
 returns c =
-    leaves-from (names_of c.args.names.now c.args.text.now) (switches_of c.args.switches) (words c.args.rows.now) c.args.i c.args.attr c.spot-spot.ensures.result_value (c.placed.ensures ∙ ap (λ (x : Ctx). spot x free) c.in_params.ensures) (c.placed-2.ensures ∙ ap (λ (x : Ctx). spot x free) c.in_body.ensures) c.end_at-stop.ensures.0 c.leaves.ensures
+    leaves-from (names_of c.args.names.now c.args.text.now) (switches_of c.args.switches) (words c.args.rows.now) c.args.i c.args.attr c.spot-spot.ensures.result_value (c.eq-method.ensures ∙ slot_same
+    c.spot-spot.result.slot OfMethod) (c.placed.ensures ∙ ap (λ (x : Ctx). spot x free) c.in_params.ensures) (c.placed-2.ensures ∙ ap (λ (x : Ctx). spot x free) c.in_body.ensures) c.end_at-stop.ensures.0 c.leaves.ensures

@@ -4,15 +4,11 @@ use mathlib.Core.Bool.{Bool, true, false, cond}
 use Prim.Native.Nat.{◌<◌}
 use native.Mathlib.Omega.{arith}
 use mir.Val.{bool_byte}
-use borrow.Author.Rules.{rules}
 use Rattle.plan.proofs.place.bit.Goals as goal
 
 one : (b : Bool) → (bool_byte b ≡ cond b 1 0) × (bool_byte b < 2)
 one true = (refl, omega arith)
 one false = (refl, omega arith)
-
-pub overflow_cast-result : goal.overflow_cast-result
-overflow_cast-result c = search rules
 
 -- a flag is 1 or 0
 

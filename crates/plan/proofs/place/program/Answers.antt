@@ -8,10 +8,8 @@ use Rattle.plan.specs.Frames.{FramesBelow}
 use Rattle.plan.proofs.place.program.Goals as goal
 
 pub placed-requires : goal.placed-requires
-placed-requires c = record {
-  frames_below = subst (FramesBelow 16384) (sym c.at_program.ensures) (record { this = omega arith; super = omega arith; arguments = omega arith });
-  slot_bound = omega arith;
-}
+placed-requires c =
+    subst (FramesBelow 16384) (sym c.at_program.ensures) (record { this = omega arith; super = omega arith; arguments = omega arith })
 
 pub returns : goal.returns
 returns c = c.placed.ensures ∙ ap (λ (x : Ctx). spot x free) c.at_program.ensures

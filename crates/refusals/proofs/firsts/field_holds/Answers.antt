@@ -10,8 +10,8 @@ returns-then-cell-ne-FIELD c = sym (rw (← c.cell.ensures.0, ne_eqb _ _ c.if-ce
 
 pub returns-then-start-e : goal.returns-then-start-e
 unfolding holds_at
-returns-then-start-e c = sym (rw (← c.cell.ensures.0, c.if-cell-ne-FIELD.false, ← c.cell-e.ensures.0, ← c.cell-2.ensures.0, ← c.value_from-start.ensures, lt-ltb _ _ c.if-start-e.true, ← c.wide.ensures))
+returns-then-start-e c = sym (rw (← c.cell.ensures.0, c.if-cell-ne-FIELD.false, ← c.cell-e.ensures.0, ← c.cell-2.ensures.0, ← c.value_from-start.ensures, lt-ltb _ _ c.if-start-e.true))
 
-pub returns : goal.returns
+pub returns-else-start-e : goal.returns-else-start-e
 unfolding holds_at
-returns c = sym (rw (← c.cell.ensures.0, c.if-cell-ne-FIELD.false, ← c.cell-e.ensures.0, ← c.cell-2.ensures.0, ← c.value_from-start.ensures, le-ltb _ _ c.if-start-e.false))
+returns-else-start-e c = sym (rw (← c.cell.ensures.0, c.if-cell-ne-FIELD.false, ← c.cell-e.ensures.0, ← c.cell-2.ensures.0, ← c.value_from-start.ensures, le-ltb _ _ c.if-start-e.false))

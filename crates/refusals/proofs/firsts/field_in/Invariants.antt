@@ -6,6 +6,3 @@ use Rattle.refusals.proofs.firsts.field_in.Given as goal
 
 abbrev pub invariant-loop-i : goal.invariant-loop-i
 invariant-loop-i l = Since (words l.rows) l.arrows l.n (length l.initial.next) l.next l.hit l.found l.i
-
-abbrev pub decreases-loop-i : goal.decreases-loop-i
-decreases-loop-i l = l.i

@@ -1,5 +1,4 @@
 -- `refusals::firsts::first_arguments` meets its contract. Assumes nothing.
-use Prim.Native.Nat.{◌-◌}
 use Rattle.names.proofs.Seeking.{Seek}
 use Rattle.names.specs.Words.{words, kind_at, name_at}
 use Rattle.refusals.specs.Refused.{binds_arguments}
@@ -7,6 +6,3 @@ use Rattle.refusals.proofs.firsts.first_arguments.Given as goal
 
 abbrev pub invariant-loop-i : goal.invariant-loop-i
 invariant-loop-i l = Seek (λ j. binds_arguments l.names l.text (kind_at (words l.rows) j) (name_at (words l.rows) j)) l.n 0 l.i
-
-abbrev pub decreases-loop-i : goal.decreases-loop-i
-decreases-loop-i l = l.n - l.i

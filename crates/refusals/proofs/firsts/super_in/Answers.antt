@@ -6,7 +6,7 @@ use lib.ListN.{get_or}
 use Rattle.forest.proofs.Telling.{told-on}
 use Rattle.names.proofs.Seeking.{seek-start, seek-next, seek_found, seek-none}
 use Rattle.names.specs.Words.{words}
-use Rattle.refusals.specs.Standing.{first_then}
+use Rattle.forest.specs.Told.{first_then}
 use Rattle.refusals.proofs.Stands.{clear_told, told_from, bad-same, says, six_rows}
 use Rattle.refusals.proofs.firsts.super_in.Goals as goal
 

@@ -1,6 +1,6 @@
 -- `refusals::firsts::super_in` meets its contract. Assumes nothing.
 use mathlib.Core.Path.{◌≡◌}
-use Prim.Native.Nat.{ℕ, ◌-◌}
+use Prim.Native.Nat.{ℕ}
 use lib.ListN.{length, get_or}
 use Rattle.forest.specs.Told.{told_by}
 use Rattle.names.proofs.Seeking.{Seek}
@@ -13,6 +13,3 @@ abbrev pub invariant-loop-i : goal.invariant-loop-i
 invariant-loop-i l =
     Seek (λ j. super_bad (stand_of (words l.rows) j) (kind_at (words l.rows) j)) l.n 0 l.i
     × ((length l.stands ≡ length l.initial.stands) × ((j : ℕ) → get_or l.stands j 0 ≡ told_by (words l.rows) (told_from (words l.rows)) 0 l.i j))
-
-abbrev pub decreases-loop-i : goal.decreases-loop-i
-decreases-loop-i l = l.n - l.i

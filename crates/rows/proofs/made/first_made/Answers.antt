@@ -1,22 +1,16 @@
 -- `rows::made::first_made` meets its contract. Assumes nothing.
-use mathlib.Core.Path.{◌∙◌}
-use Rattle.names.specs.Words.{words}
+use Rattle.std.proofs.Common.{◌≡◌, ℕ, true, false, arith, rules}
+use Rattle.std.proofs.lemmas.Iterator.{first_from_Range}
+use Rattle.names.specs.Words.{words, kind_at, attr_at}
+use Rattle.grammar.specs.Grammar.{made_row}
 use Rattle.rows.specs.Refusals.{first_made}
-use Rattle.names.proofs.Seeking.{seek-start, seek-next, seek_found, seek-none}
-use Rattle.forest.proofs.Visits.{made-same}
-use native.Mathlib.Omega.{arith}
+use Rattle.names.proofs.Seeking.{first_is}
 use Rattle.rows.proofs.made.first_made.Goals as goal
-
-pub loop-i-init : goal.loop-i-init
-loop-i-init c = seek-start _ _ _
-
-pub returns-then-made_row : goal.returns-then-made_row
-unfolding first_made
-returns-then-made_row c = seek_found _ _ _ _ c.loop-i.invariant (omega arith) (made-same (words c.args.s.now) c.loop-i.i _ _ _ c.cell-k.ensures.0 c.cell-a.ensures.0 c.made_row.ensures ∙ c.if-made_row.true)
-
-pub loop-i-preserved : goal.loop-i-preserved
-loop-i-preserved c = seek-next _ _ _ _ c.loop-i.invariant (omega arith) (made-same (words c.args.s.now) c.loop-i.i _ _ _ c.cell-k.ensures.0 c.cell-a.ensures.0 c.made_row.ensures ∙ c.if-made_row.false)
 
 pub returns : goal.returns
 unfolding first_made
-returns c = seek-none _ _ _ _ c.loop-i.invariant (omega arith)
+returns c =
+    let ws = words c.args.s.now in
+    let made = λ (i : ℕ). made_row (kind_at ws i) (attr_at ws i) in
+    first_is made c.args.n 0 c.args.n c.find.result (omega arith)
+    (first_from_Range _ _ _ _ (λ i. made i ≡ true) (λ i. made i ≡ false) c.find.ensures.ran (λ x q h. grind arith) (λ x q h. (search rules, grind arith)))

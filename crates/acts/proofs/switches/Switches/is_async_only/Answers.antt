@@ -5,4 +5,4 @@ use Rattle.acts.proofs.switches.Switches.is_async_only.Goals as goal
 
 pub returns : goal.returns
 unfolding async_only
-returns c = c.is_async_only.ensures ∙ ap is_async_only c.new-converter.ensures.0
+returns c = c.is_async_only.ensures ∙ ap is_async_only c.converter.ensures.mode

@@ -5,4 +5,4 @@ use Rattle.acts.proofs.Entering.{moved_as}
 use Rattle.acts.proofs.switches.Switches.moves_function.Goals as goal
 
 pub returns : goal.returns
-returns c = c.will_transform_async_function.ensures ∙ moved_as (switches_of c.args.self) c.args.attr _ _ _ _ c.new-converter.ensures.1.0 c.new-converter.ensures.1.1 c.has_bit.ensures c.has_bit-2.ensures
+returns c = c.will_transform_async_function.ensures ∙ moved_as (switches_of c.args.self) c.args.attr _ _ _ _ c.converter.ensures.async_to_generator c.converter.ensures.async_generator_functions c.has_bit.ensures c.has_bit-2.ensures

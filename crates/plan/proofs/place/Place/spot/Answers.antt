@@ -7,6 +7,6 @@ use Rattle.plan.proofs.place.Place.spot.Goals as goal
 pub returns : goal.returns
 unfolding place_of
 returns c = record {
-  result_value = simp div-div-eq-div-mul;
+  result_value = rw c.slot_in.ensures (simp div-div-eq-div-mul);
   frames_below = record { this = frame_low _; super = frame_low _; arguments = frame_low _ };
 }

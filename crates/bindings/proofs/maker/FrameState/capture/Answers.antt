@@ -1,0 +1,43 @@
+-- `bindings::maker::FrameState::capture` meets its contract. Assumes nothing.
+use Prim.Native.Nat.{ℕ, ◌+◌}
+use mathlib.Core.Path.{refl, ap, ◌∙◌}
+use mathlib.Core.List.{List}
+use lib.ListN.{set}
+use Rattle.bindings.specs.Filed.{behind}
+use Rattle.bindings.proofs.Filing.{captured-behind}
+use Rattle.bindings.proofs.Captures.{capture_kept, capture_room, capture_new}
+use Rattle.bindings.proofs.maker.FrameState.capture.Goals as goal
+
+pub returns-then-made-table-ne0 : goal.returns-then-made-table-ne0
+returns-then-made-table-ne0 c =
+    let a = c.args in
+    let r = c.requires in
+    let t = c.place-table in
+    record {
+      kept = capture_kept a.made.now a.cap a.self.count a.u a.self.row r.asked r.u_nonzero.0 r.u_nonzero.1 t.result t.ensures.0 (λ z. c.if-made-table-ne0.true z);
+      row_value = refl;
+      made_unchanged = refl;
+    }
+
+pub push-requires : goal.push-requires
+push-requires c =
+    let a = c.args in
+    let r = c.requires in
+    let t = c.place-table in
+    let A = r.asked in
+    let room = capture_room a.made.now a.cap a.self.count a.u a.self.row A r.u_nonzero.0 r.u_nonzero.1 t.result t.ensures.0 c.if-made-table-ne0.false in
+    (A.store.long, (room, (A.row_low, A.cap_low)))
+
+pub returns : goal.returns
+returns c =
+    let a = c.args in
+    let r = c.requires in
+    let t = c.place-table in
+    let none = c.if-made-table-ne0.false in
+    let room = capture_room a.made.now a.cap a.self.count a.u a.self.row r.asked r.u_nonzero.0 r.u_nonzero.1 t.result t.ensures.0 none in
+    let put = ap (λ (l : List ℕ). set l t.result (a.self.count + 1)) c.push.ensures in
+    record {
+      kept = capture_new a.made.now a.cap a.self.count a.u a.self.row r.asked r.u_nonzero.0 r.u_nonzero.1 t.result t.ensures.0 none _ put;
+      row_value = refl;
+      made_unchanged = ap (behind a.cap) put ∙ captured-behind a.made.now a.cap (a.self.count + 1) a.u a.self.row t.result room t.ensures.1;
+    }

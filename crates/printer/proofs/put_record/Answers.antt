@@ -1,5 +1,0 @@
--- `printer::put_record` meets its contract. Assumes nothing.
-use Rattle.printer.proofs.put_record.Goals as goal
-
-pub returns : goal.returns
-returns c = rw (← c.word.ensures, ← c.word-2.ensures, ← c.word-3.ensures) c.put_three.ensures
