@@ -1,11 +1,8 @@
 -- The steps' act of a row in each branch of the code. Assumes nothing.
 use mathlib.Core.Path.{◌≡◌, refl, ap, sym, subst, ◌∙◌}
-use mathlib.Core.Logic.{◌⊎◌, inl, inr}
 use mathlib.Core.Bool.{Bool, true, false, cond, not, ◌&&◌, ◌||◌}
-use Prim.Native.Nat.{ℕ, ◌+◌, ◌<◌, ◌≤◌}
-use native.Mathlib.Omega.{arith}
-use Rattle.std.proofs.lemmas.Bool.{cases_lt}
-use borrow.Author.Tests.{ne_eqb}
+use Prim.Native.Nat.{ℕ}
+use borrow.Author.Tests.{not-true, not-false}
 use lib.Dec.{eqb}
 use Rattle.grammar.specs.Kinds.{This, Super, Ident, Member, Computed, Call, Assign, Arrow, Function, Method, Field, StaticBlock, Property, Target}
 use Rattle.forest.specs.Forest.{Rows}
@@ -22,11 +19,12 @@ use Rattle.passes.specs.declared.slots.Slot.TheVariants.{Free}
 use Rattle.passes.specs.declared.Becomes.{Becomes}
 use Rattle.acts.specs.declared.context.Context.{Context}
 use Rattle.acts.specs.declared.act.Act.{Act}
+use Rattle.acts.specs.declared.act.Spot.{Spot}
 use Rattle.acts.specs.View.{context_of}
 use Rattle.acts.specs.Deciding.{inside_of, Does}
 
 -- an act of the code is the steps' act, part by part
-pub decided : (w : Switches) (c : Ctx) (A : StepsAct) (X : Op) (s s' : Slot) {t t' : Step} → A ≡ does X (by t (slot_number s)) (by t' (slot_number s')) → (r : Act) (op : Becomes) (one more : Context)
+pub decided : (w : Switches) (c : Ctx) (A : StepsAct) (X : Op) (s s' : Slot) {t t' : Step} → A ≡ does X (by t (slot_number s)) (by t' (slot_number s')) → (r : Act Spot) (op : Becomes) (one more : Context)
     → r ≡ inside_of op one s more s' → op_of op ≡ X → context_of one ≡ enter w t c → context_of more ≡ enter w t' c → Does w c A r
 decided w c A X s s' {t} {t'} q r op one more e p f g =
     subst (λ (B : StepsAct). Does w c B r) (sym q)
@@ -37,21 +35,13 @@ pub stay : (w : Switches) (c : Ctx) → c ≡ enter w along c
 unfolding enter
 stay w c = refl
 
-pub decided_along : (w : Switches) (A : StepsAct) (X : Op) (sl : Slot) (context : Context) → A ≡ does X (by along (slot_number sl)) (by along free) → (r : Act) (op : Becomes)
+pub decided_along : (w : Switches) (A : StepsAct) (X : Op) (sl : Slot) (context : Context) → A ≡ does X (by along (slot_number sl)) (by along free) → (r : Act Spot) (op : Becomes)
     → r ≡ inside_of op context sl context Free → op_of op ≡ X → Does w (context_of context) A r
 decided_along w A X sl context q r op e p = decided w (context_of context) A X sl Free q r op context context e p (stay w (context_of context)) (stay w (context_of context))
 
 assoc : (x y z : Bool) → (x && y && z) ≡ ((x && y) && z)
 assoc true y z = refl
 assoc false y z = refl
-
-not-true : (x : Bool) → not x ≡ true → x ≡ false
-not-true true e = sym e
-not-true false e = refl
-
-not-false : (x : Bool) → not x ≡ false → x ≡ true
-not-false true e = refl
-not-false false e = sym e
 
 neither : (y s : Bool) → (not y || s) ≡ true → (y && not s) ≡ false
 neither true s e = ap not e
@@ -157,19 +147,19 @@ module _ (N : Names) (w : Switches) (l : Bool) (c : Ctx) (sl o k a n : ℕ) (i :
     unfolding act_of
     function_plain p = rw (p, q)
 
-  module _ (x y : Bool) (p : x ≡ bit 1 a) (q : y ≡ bit 2 a) where
-    pub keyed-plain : not (eqb k Method || y) ≡ true → act_of N w l c sl o Kind.keyed k a n i ≡ does (row k a n) (by along free) (by along free)
+  module _ (x y : Bool) (p : x ≡ bit 1 a) (q : y ≡ (eqb k Method || bit 2 a)) where
+    pub keyed-plain : y ≡ false → act_of N w l c sl o Kind.keyed k a n i ≡ does (row k a n) (by along free) (by along free)
     unfolding act_of
-    keyed-plain e = let h : (eqb k Method || bit 2 a) ≡ false = rw (← q) (not-true _ e) in rw h (ap (λ (m : ℕ). does (row k a n) (by along m) (by along free)) (cond_same (bit 1 a)))
+    keyed-plain e = let h : (eqb k Method || bit 2 a) ≡ false = rw (← q) e in rw h (ap (λ (m : ℕ). does (row k a n) (by along m) (by along free)) (cond_same (bit 1 a)))
 
-    module _ (e : not (eqb k Method || y) ≡ false) where
+    module _ (e : y ≡ true) where
       pub keyed-computed : x ≡ true → act_of N w l c sl o Kind.keyed k a n i ≡ does (row k a n) (by along free) (by along of_method)
       unfolding act_of
-      keyed-computed z = let h : (eqb k Method || bit 2 a) ≡ true = rw (← q) (not-false _ e) in rw (h, ← p, z)
+      keyed-computed z = let h : (eqb k Method || bit 2 a) ≡ true = rw (← q) e in rw (h, ← p, z)
 
       pub keyed-named : x ≡ false → act_of N w l c sl o Kind.keyed k a n i ≡ does (row k a n) (by along of_method) (by along of_method)
       unfolding act_of
-      keyed-named z = let h : (eqb k Method || bit 2 a) ≡ true = rw (← q) (not-false _ e) in rw (h, ← p, z)
+      keyed-named z = let h : (eqb k Method || bit 2 a) ≡ true = rw (← q) e in rw (h, ← p, z)
 
   module _ (x : Bool) (p : x ≡ bit 1 a) where
     pub field-computed : x ≡ true → act_of N w l c sl o Kind.field k a n i ≡ does (row k a n) (by along free) (by (in_value o) free)
@@ -184,45 +174,13 @@ module _ (N : Names) (w : Switches) (l : Bool) (c : Ctx) (sl o k a n : ℕ) (i :
   unfolding act_of
   static_act = refl
 
--- the kinds of two, and those that no rule is about, by the match of the code
-module _ (k : ℕ) where
-  two : (j : ℕ) → j ≤ k → k < j + 2 → (k ≡ j) ⊎ (k ≡ j + 1)
-  two j l u = go (cases_lt k (j + 1))
-    where
-      go : (k < j + 1) ⊎ (j + 1 ≤ k) → (k ≡ j) ⊎ (k ≡ j + 1)
-      go (inl h) = inl (omega arith)
-      go (inr h) = inr (omega arith)
-
-  pub is_access : Member ≤ k → k < Call → kind_of k ≡ Kind.access
-  unfolding kind_of
-  is_access l u = elim (two 12 l u) [ inl h ↦ rw h refl | inr h ↦ rw h refl ]
-
-  pub is_keyed : (k ≡ Method) ⊎ (k ≡ Property) → kind_of k ≡ Kind.keyed
-  unfolding kind_of
-  is_keyed e = elim e [ inl h ↦ rw h refl | inr h ↦ rw h refl ]
-
-  pub is-other : (k ≡ This → ⊥) → (k ≡ Super → ⊥) → (k ≡ Ident → ⊥) → (k ≡ Member → ⊥) → (k ≡ Computed → ⊥) → (k ≡ Call → ⊥) → (k ≡ Assign → ⊥) → (k ≡ Arrow → ⊥) → (k ≡ Function → ⊥) →
-      (k ≡ Method → ⊥) → (k ≡ Property → ⊥) → (k ≡ Field → ⊥) → (k ≡ StaticBlock → ⊥) → (k ≡ Target → ⊥) → kind_of k ≡ Kind.other
-  unfolding kind_of
-  is-other h0 h1 h2 h3 h4 h5 h6 h7 h8 h9 h10 h11 h12 h13 =
-      rw (
-        ne_eqb k This h0,
-        ne_eqb k Super h1,
-        ne_eqb k Ident h2,
-        ne_eqb k Member h3,
-        ne_eqb k Computed h4,
-        ne_eqb k Call h5,
-        ne_eqb k Assign h6,
-        ne_eqb k Arrow h7,
-        ne_eqb k Function h8,
-        ne_eqb k Method h9,
-        ne_eqb k Property h10,
-        ne_eqb k Field h11,
-        ne_eqb k StaticBlock h12,
-        ne_eqb k Target h13,
-      )
+-- the kinds that no rule is about
+pub is-other : (k : ℕ) → eqb k This ≡ false → eqb k Super ≡ false → eqb k Ident ≡ false → eqb k Member ≡ false → eqb k Computed ≡ false → eqb k Call ≡ false → eqb k Assign ≡ false → eqb k Arrow ≡ false →
+    eqb k Function ≡ false → eqb k Method ≡ false → eqb k Property ≡ false → eqb k Field ≡ false → eqb k StaticBlock ≡ false → eqb k Target ≡ false → kind_of k ≡ Kind.other
+unfolding kind_of
+is-other k h0 h1 h2 h3 h4 h5 h6 h7 h8 h9 h10 h11 h12 h13 = rw (h0, h1, h2, h3, h4, h5, h6, h7, h8, h9, h10, h11, h12, h13)
 
 -- an act by its kind
-pub by_kind : (N : Names) (w : Switches) (l : Bool) (c : Ctx) (sl o k a n : ℕ) (i : Rows) {K : Kind} {r : Act} → kind_of k ≡ K → Does w c (act_of N w l c sl o K k a n i) r → Does w c (act N w l c sl o k a n i) r
+pub by_kind : (N : Names) (w : Switches) (l : Bool) (c : Ctx) (sl o k a n : ℕ) (i : Rows) {K : Kind} {r : Act Spot} → kind_of k ≡ K → Does w c (act_of N w l c sl o K k a n i) r → Does w c (act N w l c sl o k a n i) r
 unfolding act
 by_kind N w l c sl o k a n i {K} {r} q d = subst (λ (H : Kind). Does w c (act_of N w l c sl o H k a n i) r) (sym q) d

@@ -15,11 +15,11 @@ abbrev pub spot_of : Spot → StepsSpot
 spot_of q = spot (context_of q.context) (slot_number q.slot)
 
 -- children in these contexts and slots: the first, and the later ones
-abbrev pub inside_of : (op : Becomes) (one : Context) (slot : Slot) (more : Context) (last : Slot) → Act
+abbrev pub inside_of : (op : Becomes) (one : Context) (slot : Slot) (more : Context) (last : Slot) → Act Spot
 inside_of op one slot more last = record { op = op; one = record { context = one; slot = slot }; more = record { context = more; slot = last } }
 
 -- the act r of a row in context c is the steps' act A
-pub record Does (w : Switches) (c : Ctx) (A : StepsAct) (r : Act) : Type 0 where
+pub record Does (w : Switches) (c : Ctx) (A : StepsAct) (r : Act Spot) : Type 0 where
   pub becomes : op_of r.op ≡ A.op
   pub first : spot_of r.one ≡ spot (enter w A.one.step c) A.one.slot
   pub later : spot_of r.more ≡ spot (enter w A.more.step c) A.more.slot

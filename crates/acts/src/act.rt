@@ -1,11 +1,12 @@
 // What becomes of a row, and how its children are reached: modules 3 to 6 brought together, a function
 // for each kind that a rule is about.
-ghost use Rattle.std.specs.Prelude.{◌≡◌, Bool, cond, ℕ};
+ghost use Rattle.std.specs.Prelude.{◌≡◌, Bool, cond, ℕ, ◌||◌, eqb};
+ghost use Rattle.grammar.specs.Kinds.{Method};
 ghost use Rattle.forest.specs.Forest.{Rows};
-ghost use Rattle.steps.specs.Mode.{Switches as Target, async_only};
+ghost use Rattle.steps.specs.Mode.{Switches as Target, async_only, bit};
 ghost use Rattle.steps.specs.Naming.{Names, named_arguments};
 ghost use Rattle.steps.specs.Super.{first_super, first_access, first_name, first_inside};
-ghost use Rattle.steps.specs.Acts.{act_of, act, Op, Kind};
+ghost use Rattle.steps.specs.Acts.{act_of, act, Op, Kind as RuleKind};
 ghost use Rattle.below.specs.Below.{Seen};
 ghost use Rattle.passes.specs.View.{op_of, slot_number};
 ghost use Rattle.passes.specs.declared.slots.Slot.TheVariants.{Free};
@@ -13,14 +14,13 @@ ghost use Rattle.acts.specs.View.{switches_of, context_of};
 ghost use Rattle.acts.specs.Deciding.{inside_of, Does};
 
 use crate::context::Context;
-use crate::switches::{Switches, has_bit};
+use crate::switches::Switches;
 use below::Below;
-use grammar::kinds::{
-    ARROW, ASSIGN, CALL, COMPUTED, FIELD, FUNCTION, IDENT, MEMBER, METHOD, PROPERTY, STATIC_BLOCK,
-    SUPER, TARGET, THIS,
-};
+use grammar::kind::Kind;
+use passes::Becomes;
 use passes::slots::Slot;
-use passes::{Access, Becomes, Capture};
+use steps::has_bit;
+use uses::{Access, Capture};
 
 // Where a row is.
 #[derive(Clone, Copy)]
@@ -29,12 +29,12 @@ pub struct Spot {
     pub slot: Slot,
 }
 
-// What becomes of a row, and where its first child and its later ones are.
+// What becomes of a row, and where its first child and its later ones are: in the spots of this crate, or in the places of `plan`.
 #[derive(Clone, Copy)]
-pub struct Act {
+pub struct Act<Q> {
     pub op: Becomes,
-    pub one: Spot,
-    pub more: Spot,
+    pub one: Q,
+    pub more: Q,
 }
 
 // The words of a row.
@@ -46,7 +46,7 @@ pub struct Words {
 }
 
 // Children in these contexts and slots: the first, and the later ones.
-fn inside(op: Becomes, one: Context, slot: Slot, more: Context, last: Slot) -> Act
+fn inside(op: Becomes, one: Context, slot: Slot, more: Context, last: Slot) -> Act<Spot>
     ensures { result ≡ inside_of op one slot more last }
 {
     Act {
@@ -60,7 +60,7 @@ fn inside(op: Becomes, one: Context, slot: Slot, more: Context, last: Slot) -> A
 }
 
 // Children in the same context, the first in that slot.
-fn along(op: Becomes, context: Context, slot: Slot) -> Act
+fn along(op: Becomes, context: Context, slot: Slot) -> Act<Spot>
     ensures { result ≡ inside_of op context slot context Free }
 {
     inside(op, context, slot, context, Slot::Free)
@@ -78,8 +78,8 @@ fn kept(row: Words) -> Becomes
 }
 
 // Module 3: a captured `this`.
-fn on_this(q: Spot, row: Words) -> Act
-    ensures { (N : Names) (w : Target) (l : Bool) (o : ℕ) (i : Rows) → Does w (context_of q.context) (act_of N w l (context_of q.context) (slot_number q.slot) o Kind.this row.kind row.attr row.name i) result }
+fn on_this(q: Spot, row: Words) -> Act<Spot>
+    ensures { (N : Names) (w : Target) (l : Bool) (o : ℕ) (i : Rows) → Does w (context_of q.context) (act_of N w l (context_of q.context) (slot_number q.slot) o RuleKind.this row.kind row.attr row.name i) result }
 {
     let context = q.context;
     if context.takes_this {
@@ -93,8 +93,8 @@ fn on_this(q: Spot, row: Words) -> Act
 }
 
 // Module 4: the Super of a rewritten access falls away.
-fn on_super(q: Spot, row: Words) -> Act
-    ensures { (N : Names) (w : Target) (l : Bool) (o : ℕ) (i : Rows) → Does w (context_of q.context) (act_of N w l (context_of q.context) (slot_number q.slot) o Kind.super row.kind row.attr row.name i) result }
+fn on_super(q: Spot, row: Words) -> Act<Spot>
+    ensures { (N : Names) (w : Target) (l : Bool) (o : ℕ) (i : Rows) → Does w (context_of q.context) (act_of N w l (context_of q.context) (slot_number q.slot) o RuleKind.super row.kind row.attr row.name i) result }
 {
     let context = q.context;
     if q.slot == Slot::Dropped {
@@ -104,8 +104,9 @@ fn on_super(q: Spot, row: Words) -> Act
 }
 
 // Module 5: a captured `arguments`. `only`: the mode is AsyncOnly; `arguments`: that is its name.
-fn on_ident(q: Spot, row: Words, only: bool, arguments: bool) -> Act
-    ensures { (N : Names) (w : Target) (l : Bool) (o : ℕ) (i : Rows) → only ≡ async_only w → arguments ≡ named_arguments N row.name → Does w (context_of q.context) (act_of N w l (context_of q.context) (slot_number q.slot) o Kind.ident row.kind row.attr row.name i) result }
+fn on_ident(q: Spot, row: Words, only: bool, arguments: bool) -> Act<Spot>
+    ensures { (N : Names) (w : Target) (l : Bool) (o : ℕ) (i : Rows) → only ≡ async_only w → arguments ≡ named_arguments N row.name
+        → Does w (context_of q.context) (act_of N w l (context_of q.context) (slot_number q.slot) o RuleKind.ident row.kind row.attr row.name i) result }
 {
     let context = q.context;
     if only & arguments & context.takes_arguments {
@@ -119,8 +120,8 @@ fn on_ident(q: Spot, row: Words, only: bool, arguments: bool) -> Act
 }
 
 // Module 4: `super.p` or `super[k]`. `sup`: its first child is Super.
-fn on_access(q: Spot, row: Words, sup: bool) -> Act
-    ensures { (N : Names) (w : Target) (l : Bool) (o : ℕ) (i : Rows) → sup ≡ first_super i → Does w (context_of q.context) (act_of N w l (context_of q.context) (slot_number q.slot) o Kind.access row.kind row.attr row.name i) result }
+fn on_access(q: Spot, row: Words, sup: bool) -> Act<Spot>
+    ensures { (N : Names) (w : Target) (l : Bool) (o : ℕ) (i : Rows) → sup ≡ first_super i → Does w (context_of q.context) (act_of N w l (context_of q.context) (slot_number q.slot) o RuleKind.access row.kind row.attr row.name i) result }
 {
     let context = q.context;
     let slot = q.slot;
@@ -140,8 +141,8 @@ fn on_access(q: Spot, row: Words, sup: bool) -> Act
 }
 
 // Module 4: the callee of a call. `access`: it is `super.p` or `super[k]`.
-fn on_call(q: Spot, row: Words, access: bool) -> Act
-    ensures { (N : Names) (w : Target) (l : Bool) (o : ℕ) (i : Rows) → access ≡ first_access i → Does w (context_of q.context) (act_of N w l (context_of q.context) (slot_number q.slot) o Kind.call row.kind row.attr row.name i) result }
+fn on_call(q: Spot, row: Words, access: bool) -> Act<Spot>
+    ensures { (N : Names) (w : Target) (l : Bool) (o : ℕ) (i : Rows) → access ≡ first_access i → Does w (context_of q.context) (act_of N w l (context_of q.context) (slot_number q.slot) o RuleKind.call row.kind row.attr row.name i) result }
 {
     let context = q.context;
     if context.takes_super & access {
@@ -151,8 +152,9 @@ fn on_call(q: Spot, row: Words, access: bool) -> Act
 }
 
 // Module 4: an assignment. `access`: its Target's child is `super.p` or `super[k]`, of that property.
-fn on_assign(q: Spot, row: Words, access: bool, property: usize) -> Act
-    ensures { (N : Names) (w : Target) (l : Bool) (o : ℕ) (i : Rows) → access ≡ first_access (first_inside i) → property ≡ first_name (first_inside i) → Does w (context_of q.context) (act_of N w l (context_of q.context) (slot_number q.slot) o Kind.assign row.kind row.attr row.name i) result }
+fn on_assign(q: Spot, row: Words, access: bool, property: usize) -> Act<Spot>
+    ensures { (N : Names) (w : Target) (l : Bool) (o : ℕ) (i : Rows) → access ≡ first_access (first_inside i) → property ≡ first_name (first_inside i)
+        → Does w (context_of q.context) (act_of N w l (context_of q.context) (slot_number q.slot) o RuleKind.assign row.kind row.attr row.name i) result }
 {
     let context = q.context;
     if context.takes_super & access {
@@ -167,9 +169,10 @@ fn on_assign(q: Spot, row: Words, access: bool, property: usize) -> Act
     along(kept(row), context, Slot::Free)
 }
 
-// Module 4: the Target of an assignment that is rewritten falls away.
-fn on_target(q: Spot, row: Words) -> Act
-    ensures { (N : Names) (w : Target) (l : Bool) (o : ℕ) (i : Rows) → Does w (context_of q.context) (act_of N w l (context_of q.context) (slot_number q.slot) o Kind.target row.kind row.attr row.name i) result }
+// Module 4: the Target of an assignment that is rewritten falls away. Like `on_super` but for its kind and where its child stands:
+// one function for both would have these as parameters and a contract by cases, and be no plainer.
+fn on_target(q: Spot, row: Words) -> Act<Spot>
+    ensures { (N : Names) (w : Target) (l : Bool) (o : ℕ) (i : Rows) → Does w (context_of q.context) (act_of N w l (context_of q.context) (slot_number q.slot) o RuleKind.target row.kind row.attr row.name i) result }
 {
     let context = q.context;
     if q.slot == Slot::Dropped {
@@ -179,15 +182,15 @@ fn on_target(q: Spot, row: Words) -> Act
 }
 
 // Any other row.
-fn on_other(q: Spot, row: Words) -> Act
-    ensures { (N : Names) (w : Target) (l : Bool) (o : ℕ) (i : Rows) → Does w (context_of q.context) (act_of N w l (context_of q.context) (slot_number q.slot) o Kind.other row.kind row.attr row.name i) result }
+fn on_other(q: Spot, row: Words) -> Act<Spot>
+    ensures { (N : Names) (w : Target) (l : Bool) (o : ℕ) (i : Rows) → Does w (context_of q.context) (act_of N w l (context_of q.context) (slot_number q.slot) o RuleKind.other row.kind row.attr row.name i) result }
 {
     along(kept(row), q.context, Slot::Free)
 }
 
 // Module 6: an Arrow. Enabled makes a Function of one that is not async.
-pub fn on_arrow(q: Spot, row: Words, switches: Switches) -> Act
-    ensures { (N : Names) (l : Bool) (o : ℕ) (i : Rows) → Does (switches_of switches) (context_of q.context) (act_of N (switches_of switches) l (context_of q.context) (slot_number q.slot) o Kind.arrow row.kind row.attr row.name i) result }
+pub fn on_arrow(q: Spot, row: Words, switches: Switches) -> Act<Spot>
+    ensures { (N : Names) (l : Bool) (o : ℕ) (i : Rows) → Does (switches_of switches) (context_of q.context) (act_of N (switches_of switches) l (context_of q.context) (slot_number q.slot) o RuleKind.arrow row.kind row.attr row.name i) result }
 {
     let attr = row.attr;
     let context = q.context.in_arrow(switches, attr);
@@ -197,7 +200,7 @@ pub fn on_arrow(q: Spot, row: Words, switches: Switches) -> Act
         return inside(kept(row), context, Slot::Free, context, Slot::Free);
     }
     let op = Becomes::Row {
-        kind: FUNCTION,
+        kind: Kind::Function as usize,
         attr: 0,
         name: 0,
     };
@@ -208,8 +211,8 @@ pub fn on_arrow(q: Spot, row: Words, switches: Switches) -> Act
 }
 
 // A Function: its Params and its Body. `late`: of a constructor, a Super is left in place.
-pub fn on_function(q: Spot, row: Words, switches: Switches, at: usize, late: bool) -> Act
-    ensures { (N : Names) (i : Rows) → Does (switches_of switches) (context_of q.context) (act_of N (switches_of switches) late (context_of q.context) (slot_number q.slot) at Kind.function row.kind row.attr row.name i) result }
+pub fn on_function(q: Spot, row: Words, switches: Switches, at: usize, late: bool) -> Act<Spot>
+    ensures { (N : Names) (i : Rows) → Does (switches_of switches) (context_of q.context) (act_of N (switches_of switches) late (context_of q.context) (slot_number q.slot) at RuleKind.function row.kind row.attr row.name i) result }
 {
     let attr = row.attr;
     let context = q.context;
@@ -222,14 +225,20 @@ pub fn on_function(q: Spot, row: Words, switches: Switches, at: usize, late: boo
     inside(kept(row), params, Slot::Free, body, Slot::BodyOf)
 }
 
+// "Method-like: last child of a Method, or of a Property with bit 1."
+fn holds_method(row: Words) -> bool
+    ensures { result ≡ (eqb row.kind Method || bit 2 row.attr) }
+{
+    matches!(Kind::from(row.kind), Kind::Method) | has_bit(2, row.attr)
+}
+
 // A Method or Property: "Method-like: last child of a Method, or of a Property with bit 1."
-fn on_keyed(q: Spot, row: Words) -> Act
-    ensures { (N : Names) (w : Target) (l : Bool) (o : ℕ) (i : Rows) → Does w (context_of q.context) (act_of N w l (context_of q.context) (slot_number q.slot) o Kind.keyed row.kind row.attr row.name i) result }
+fn on_keyed(q: Spot, row: Words) -> Act<Spot>
+    ensures { (N : Names) (w : Target) (l : Bool) (o : ℕ) (i : Rows) → Does w (context_of q.context) (act_of N w l (context_of q.context) (slot_number q.slot) o RuleKind.keyed row.kind row.attr row.name i) result }
 {
     let context = q.context;
     let keyed = has_bit(1, row.attr);
-    let method = (row.kind == METHOD) | has_bit(2, row.attr);
-    if !method {
+    if !holds_method(row) {
         return inside(kept(row), context, Slot::Free, context, Slot::Free);
     }
     if keyed {
@@ -239,8 +248,8 @@ fn on_keyed(q: Spot, row: Words) -> Act
 }
 
 // A Field: its computed key is outside, its value is not.
-fn on_field(q: Spot, row: Words, switches: Switches, at: usize) -> Act
-    ensures { (N : Names) (l : Bool) (i : Rows) → Does (switches_of switches) (context_of q.context) (act_of N (switches_of switches) l (context_of q.context) (slot_number q.slot) at Kind.field row.kind row.attr row.name i) result }
+fn on_field(q: Spot, row: Words, switches: Switches, at: usize) -> Act<Spot>
+    ensures { (N : Names) (l : Bool) (i : Rows) → Does (switches_of switches) (context_of q.context) (act_of N (switches_of switches) l (context_of q.context) (slot_number q.slot) at RuleKind.field row.kind row.attr row.name i) result }
 {
     let context = q.context;
     let value = context.in_value(switches, at);
@@ -251,8 +260,8 @@ fn on_field(q: Spot, row: Words, switches: Switches, at: usize) -> Act
 }
 
 // A StaticBlock.
-fn on_static(q: Spot, row: Words, switches: Switches, at: usize) -> Act
-    ensures { (N : Names) (l : Bool) (i : Rows) → Does (switches_of switches) (context_of q.context) (act_of N (switches_of switches) l (context_of q.context) (slot_number q.slot) at Kind.static row.kind row.attr row.name i) result }
+fn on_static(q: Spot, row: Words, switches: Switches, at: usize) -> Act<Spot>
+    ensures { (N : Names) (l : Bool) (i : Rows) → Does (switches_of switches) (context_of q.context) (act_of N (switches_of switches) l (context_of q.context) (slot_number q.slot) at RuleKind.static row.kind row.attr row.name i) result }
 {
     let context = q.context.in_static(switches, at);
     inside(kept(row), context, Slot::Free, context, Slot::Free)
@@ -260,6 +269,7 @@ fn on_static(q: Spot, row: Words, switches: Switches, at: usize) -> Act
 
 // What is done with a row of these words at row `at`. `late`: of a constructor, a Super is left in
 // place; `arguments`: of an Ident, that is its name.
+#[tactic(auto, unfolding(steps::specs::Acts::act, steps::specs::Acts::kind_of))]
 pub fn decide(
     q: Spot,
     row: Words,
@@ -268,23 +278,23 @@ pub fn decide(
     late: bool,
     below: Below,
     arguments: bool,
-) -> Act
+) -> Act<Spot>
     ensures { (N : Names) (i : Rows) → Seen i below → (row.kind ≡ 11 → arguments ≡ named_arguments N row.name)
         → Does (switches_of switches) (context_of q.context) (act N (switches_of switches) late (context_of q.context) (slot_number q.slot) at row.kind row.attr row.name i) result }
 {
-    match row.kind {
-        THIS => on_this(q, row),
-        SUPER => on_super(q, row),
-        IDENT => on_ident(q, row, switches.is_async_only(), arguments),
-        MEMBER | COMPUTED => on_access(q, row, below.first_super),
-        CALL => on_call(q, row, below.first_access),
-        ASSIGN => on_assign(q, row, below.deep_access, below.deep_name),
-        ARROW => on_arrow(q, row, switches),
-        FUNCTION => on_function(q, row, switches, at, late),
-        METHOD | PROPERTY => on_keyed(q, row),
-        FIELD => on_field(q, row, switches, at),
-        STATIC_BLOCK => on_static(q, row, switches, at),
-        TARGET => on_target(q, row),
+    match Kind::from(row.kind) {
+        Kind::This => on_this(q, row),
+        Kind::Super => on_super(q, row),
+        Kind::Ident => on_ident(q, row, switches.is_async_only(), arguments),
+        Kind::Member | Kind::Computed => on_access(q, row, below.first_super),
+        Kind::Call => on_call(q, row, below.first_access),
+        Kind::Assign => on_assign(q, row, below.deep_access, below.deep_name),
+        Kind::Arrow => on_arrow(q, row, switches),
+        Kind::Function => on_function(q, row, switches, at, late),
+        Kind::Method | Kind::Property => on_keyed(q, row),
+        Kind::Field => on_field(q, row, switches, at),
+        Kind::StaticBlock => on_static(q, row, switches, at),
+        Kind::Target => on_target(q, row),
         _ => on_other(q, row),
     }
 }

@@ -1,23 +1,15 @@
 // The three switches of the target.
 ghost use Rattle.std.specs.Prelude.{◌≡◌, ℕ, ◌≤◌};
-ghost use Rattle.steps.specs.Mode.{bit, mode_of, enabled, async_only, moved_function, moved_arrow};
+ghost use Rattle.steps.specs.Mode.{mode_of, enabled, async_only, moved_function, moved_arrow};
 ghost use Rattle.acts.specs.View.{switches_of};
 
-use steps::ArrowFunctionConverter;
+use steps::{ArrowFunctionConverter, has_bit};
 
 #[derive(Clone, Copy)]
 pub struct Switches {
     pub arrow_function: bool,
     pub async_to_generator: bool,
     pub async_generator_functions: bool,
-}
-
-// Whether the bit of a word, such as an attr, is set whose value is j: 1, 2, 4 or 8.
-pub fn has_bit(j: usize, attr: usize) -> bool
-    requires { 1 ≤ j }
-    ensures { result ≡ bit j attr }
-{
-    attr / j % 2 == 1
 }
 
 impl Switches {

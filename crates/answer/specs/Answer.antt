@@ -1,5 +1,6 @@
 -- The request's numbers for each answer of `convert` (docs/FORMAT.md, "Converting"). "Every refusal has zero counts"; "An acceptance has number 0, place 0". Assumes nothing.
 use Rattle.std.specs.Prelude.{ℕ, Result, Ok, Err}
+use Rattle.names.specs.Answered.{if_refused, if_accepted}
 use Rattle.rows.specs.Refusals as checks
 use Rattle.refusals.specs.Refused as turns
 use Rattle.answer.specs.declared.Converted.{Converted}
@@ -21,17 +22,13 @@ refusal_place (TurnedAway refused) = turns.place_for refused
 refusal_place NoRoom = 0
 
 abbrev pub number_of : Answer → ℕ
-number_of (Ok converted) = 0
-number_of (Err refusal) = refusal_number refusal
+number_of answer = if_refused refusal_number answer
 
 abbrev pub place_of : Answer → ℕ
-place_of (Ok converted) = 0
-place_of (Err refusal) = refusal_place refusal
+place_of answer = if_refused refusal_place answer
 
 abbrev pub rows_of : Answer → ℕ
-rows_of (Ok converted) = converted.rows
-rows_of (Err refusal) = 0
+rows_of answer = if_accepted (λ converted. converted.rows) answer
 
 abbrev pub bindings_of : Answer → ℕ
-bindings_of (Ok converted) = converted.bindings
-bindings_of (Err refusal) = 0
+bindings_of answer = if_accepted (λ converted. converted.bindings) answer

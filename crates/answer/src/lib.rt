@@ -30,8 +30,8 @@ pub enum Refusal {
 impl From<Unsound> for Refusal {
     ghost from_gives = { λ unsound refusal. refusal ≡ NoTable unsound };
 
-    fn from(unsound: Unsound) -> Refusal {
-        Refusal::Unsound(unsound)
+    fn from(found: Unsound) -> Refusal {
+        Refusal::Unsound(found)
     }
 }
 

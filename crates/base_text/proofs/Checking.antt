@@ -1,10 +1,10 @@
 -- What the sizes, the names, and the record and the property of a binding give where they are not turned away. Assumes nothing.
 use Prim.Native.Nat.{ℕ, ◌*◌, ◌%◌, ◌<◌, ◌≤◌}
-use mathlib.Core.Path.{◌≡◌, refl, sym}
+use mathlib.Core.Path.{◌≡◌, refl}
 use mathlib.Core.Bool.{Bool, true, false, cond, ◌&&◌, ◌||◌, not}
 use mathlib.Core.List.{List}
 use native.Mathlib.Omega.{arith}
-use borrow.Author.Tests.{lt-ltb, le-leb, eqb-true, eqb-false, leb-true, ltb-true, ltb-false}
+use borrow.Author.Tests.{lt-ltb, le-leb, eqb-true, eqb-false, leb-true, ltb-true, ltb-false, not-true}
 use lib.ListN.{length}
 use lib.Dec.{ltb, leb, eqb}
 use Rattle.names.specs.Words.{names_in}
@@ -139,9 +139,5 @@ name-at names text k e =
     record {
       some = ltb-true 0 k (and_left (ltb 0 k) (leb (8 * k) (length names)) h);
       high = leb-true (8 * k) (length names) (and_right (ltb 0 k) (leb (8 * k) (length names)) h);
-      good = not-true-is-false (bad_name names text k) (and_right (ltb 0 k && leb (8 * k) (length names)) (not (bad_name names text k)) e);
+      good = not-true (bad_name names text k) (and_right (ltb 0 k && leb (8 * k) (length names)) (not (bad_name names text k)) e);
     }
-  where
-    not-true-is-false : (b : Bool) → not b ≡ true → b ≡ false
-    not-true-is-false true q = sym q
-    not-true-is-false false q = refl

@@ -1,9 +1,9 @@
 -- The first character of a text: it stands within it, and its bytes are those of the code point that is read from them. Assumes nothing.
 use Prim.Native.Nat.{ℕ, ◌+◌, ◌*◌, ◌/◌, ◌%◌, ◌<◌, ◌≤◌}
 use mathlib.Core.Path.{◌≡◌, refl, sym, ◌∙◌}
-use mathlib.Core.Bool.{Bool, true, false, cond, ◌&&◌, ◌||◌}
+use mathlib.Core.Bool.{Bool, true, false, cond, ◌&&◌}
 use mathlib.Core.List.{List, [], ◌∷◌}
-use mathlib.Core.Logic.{◌⊎◌, inl, inr, ⊎_elim}
+use mathlib.Core.Logic.{⊎_elim}
 use native.Mathlib.Omega.{arith}
 use native.Mathlib.Nat.{not-suc-le-zero, le_trans}
 use borrow.Author.Tests.{leb-true, lt-ltb, le-ltb, eq-eqb}
@@ -11,7 +11,7 @@ use lib.Dec.{leb}
 use lib.ListN.{length, get_or, take}
 use lib.Seq.{take-append-le}
 use Rattle.names.specs.Utf8.{within, tail, seq_of, two, three, four, utf8_from, utf8}
-use Rattle.names.proofs.Bools.{and_left, and_right}
+use Rattle.names.proofs.Bools.{and_left, and_right, or_cases}
 use Rattle.letters.specs.Characters.{code_of, first_width, first_code, encode}
 
 and-false : (b : Bool) → b && false ≡ false
@@ -58,10 +58,6 @@ pub record Range (lo hi b : ℕ) : Type 0 where
 
 range : (lo hi b : ℕ) → within lo hi b ≡ true → Range lo hi b
 range lo hi b h = record { low = leb-true lo b (and_left (leb lo b) (leb b hi) h); high = leb-true b hi (and_right (leb lo b) (leb b hi) h) }
-
-or_cases : (x y : Bool) → x || y ≡ true → (x ≡ true) ⊎ (y ≡ true)
-or_cases true y h = inl refl
-or_cases false y h = inr h
 
 -- a leading byte, a second byte in its range, and one or two that continue
 record Row3 (l h m n a b c : ℕ) : Type 0 where

@@ -1,11 +1,9 @@
 -- The record of a binding, and refusal 11. "Record: use (1 this, 2 arguments, 3 get, 4 set, 5 prop, 6 value), property name number or 0 .., frame's input row". Assumes nothing.
-use Rattle.std.specs.Prelude.{ℕ, ◌+◌, ◌*◌, ◌/◌, ◌-◌, ◌≡◌, Bool, false, cond, ◌||◌, ◌&&◌, List, get_or, length, leb, ltb, eqb, Option, Some, None, is_some, Result, MatchResult}
+use Rattle.std.specs.Prelude.{ℕ, ◌+◌, ◌*◌, ◌/◌, ◌-◌, ◌≡◌, Bool, false, cond, ◌||◌, ◌&&◌, List, get_or, length, leb, ltb, eqb, Option, Some, None, is_some}
 use Rattle.std.specs.Option.{ForSome}
 use Rattle.names.specs.Words.{words}
 use Rattle.names.specs.Utf8.{within}
-use Rattle.base_text.specs.declared.bindings.Role.{Role}
-use Rattle.base_text.specs.declared.bindings.Role.TheVariants.{This, Arguments, Get, Set, Prop, Value}
-use Rattle.base_text.specs.declared.bindings.UnknownRole.{UnknownRole}
+use Rattle.uses.specs.Uses.{use_number}
 use Rattle.base_text.specs.declared.bindings.Binding.{Binding}
 
 -- how many words a record has, and how many bytes
@@ -48,24 +46,11 @@ binding_ok number bindings names =
     (cond (ltb (records_in bindings) number) false
     (record_ok names (role_of bindings number) (property_number bindings number) (frame_of bindings number)))
 
--- "use (1 this, 2 arguments, 3 get, 4 set, 5 prop, 6 value)"
-abbrev pub number_of_role : Role → ℕ
-number_of_role This = 1
-number_of_role Arguments = 2
-number_of_role Get = 3
-number_of_role Set = 4
-number_of_role Prop = 5
-number_of_role Value = 6
-
--- Of the code: the use with this number, or an error where there is none.
-abbrev pub Decodes : ℕ → Result Role UnknownRole → Type 0
-Decodes number decoded = MatchResult decoded (λ role. number_of_role role ≡ number) (λ _. within 1 6 number ≡ false)
-
 -- Of the code: what is read of a record with these words, and of a list of them. There is a binding exactly where it is not 11.
 pub record HoldsRecord (names role property frame : ℕ) (read : Option Binding) : Type 0 where
   pub told : is_some read ≡ record_ok names role property frame
-  pub holds : ForSome read (λ binding. (number_of_role binding.role ≡ role) × (binding.property ≡ property_of property))
+  pub holds : ForSome read (λ binding. (use_number binding.usage ≡ role) × (binding.property ≡ property_of property))
 
 pub record HoldsBinding (number : ℕ) (bindings : List ℕ) (names : ℕ) (read : Option Binding) : Type 0 where
   pub told : is_some read ≡ binding_ok number bindings names
-  pub holds : ForSome read (λ binding. (number_of_role binding.role ≡ role_of bindings number) × (binding.property ≡ property_of (property_number bindings number)))
+  pub holds : ForSome read (λ binding. (use_number binding.usage ≡ role_of bindings number) × (binding.property ≡ property_of (property_number bindings number)))

@@ -1,6 +1,7 @@
 -- The answers of base text: "Base text: 1 .., 4, 11, 10, 9". 1 and 4 are the same for all bindings, the others are of one. Assumes nothing.
 use Rattle.std.specs.Prelude.{ℕ, ◌*◌, ◌%◌, ◌≡◌, Bool, cond, ◌&&◌, List, ◌++◌, length, take, drop, leb, ltb, eqb, Option, Some, None, Result, Ok, Err}
 use Rattle.names.specs.Words.{names_in}
+use Rattle.names.specs.Answered.{if_refused, if_accepted}
 use Rattle.names.specs.Names.{names_fit, bytes_of, first_bad_name}
 use Rattle.letters.specs.Characters.{first_code}
 use Rattle.letters.specs.Letters.{known}
@@ -24,18 +25,15 @@ place_of (BadBinding binding) = binding
 place_of (UnknownLetter binding) = binding
 place_of NoRoom = 0
 
--- The number of an answer, its place, and its count of bytes. "Every refusal has zero counts"; "an acceptance has number 0, place 0".
-abbrev pub answer_number : Result ℕ Refusal → ℕ
-answer_number (Ok bytes) = 0
-answer_number (Err refusal) = number_of refusal
+-- The number of an answer of base text or of the maker of names, and its place; of base text's also its count of bytes. "Every refusal has zero counts"; "an acceptance has number 0, place 0".
+abbrev pub answer_number : {A : Type 0} → Result A Refusal → ℕ
+answer_number answer = if_refused number_of answer
 
-abbrev pub answer_place : Result ℕ Refusal → ℕ
-answer_place (Ok bytes) = 0
-answer_place (Err refusal) = place_of refusal
+abbrev pub answer_place : {A : Type 0} → Result A Refusal → ℕ
+answer_place answer = if_refused place_of answer
 
 abbrev pub count_of : Result ℕ Refusal → ℕ
-count_of (Ok bytes) = bytes
-count_of (Err refusal) = 0
+count_of answer = if_accepted (λ bytes. bytes) answer
 
 -- a refusal, or what is answered where the test was passed
 abbrev pub unless : {A : Type 0} → Result (Unit {0}) Refusal → Result A Refusal → Result A Refusal

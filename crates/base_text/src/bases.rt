@@ -1,21 +1,21 @@
 // The bases.
 ghost use Rattle.std.specs.Prelude.{◌≡◌};
-ghost use Rattle.base_text.specs.Bindings.{number_of_role};
+ghost use Rattle.uses.specs.Uses.{use_number};
 ghost use Rattle.base_text.specs.Bases.{base_of};
 
-use crate::bindings::Role;
+use uses::Use;
 
 // The base of a binding, by its use.
 #[tactic(auto, unfolding(crate::specs::Bases::base_of, names::specs::Names::arguments_bytes))]
-pub fn base_of(role: Role) -> &'static [u8]
-    ensures { result.now ≡ base_of (number_of_role role) }
+pub fn base_of(usage: Use) -> &'static [u8]
+    ensures { result.now ≡ base_of (use_number usage) }
 {
-    match role {
-        Role::This => b"this",
-        Role::Arguments => b"arguments",
-        Role::Get => b"superprop_get",
-        Role::Set => b"superprop_set",
-        Role::Prop => b"prop",
-        Role::Value => b"value",
+    match usage {
+        Use::This => b"this",
+        Use::Arguments => b"arguments",
+        Use::Get => b"superprop_get",
+        Use::Set => b"superprop_set",
+        Use::Prop => b"prop",
+        Use::Value => b"value",
     }
 }

@@ -1,41 +1,9 @@
 // The record of a binding. Refusal 11.
-ghost use Rattle.std.specs.Prelude.{◌≡◌, ℕ, ◌*◌, ◌≤◌, length, is_some};
-ghost use Rattle.base_text.specs.Bindings.{record_bytes, most_records, record_ok, binding_ok, Decodes, HoldsRecord, HoldsBinding};
+ghost use Rattle.std.specs.Prelude.{ℕ, ◌*◌, ◌≤◌, length};
+ghost use Rattle.base_text.specs.Bindings.{record_bytes, most_records, HoldsRecord, HoldsBinding};
 
 use names::words::cell;
-
-// The uses of a binding.
-#[derive(Clone, Copy)]
-pub enum Role {
-    This,
-    Arguments,
-    Get,
-    Set,
-    Prop,
-    Value,
-}
-
-// A number that stands for no use.
-#[derive(Clone, Copy)]
-pub struct UnknownRole;
-
-impl TryFrom<usize> for Role {
-    type Error = UnknownRole;
-
-    ghost try_from_gives = { Decodes };
-
-    fn try_from(number: usize) -> Result<Role, UnknownRole> {
-        match number {
-            1 => Ok(Role::This),
-            2 => Ok(Role::Arguments),
-            3 => Ok(Role::Get),
-            4 => Ok(Role::Set),
-            5 => Ok(Role::Prop),
-            6 => Ok(Role::Value),
-            _ => Err(UnknownRole),
-        }
-    }
-}
+use uses::Use;
 
 // How many words a record has: use, property, frame.
 const RECORD_WORDS: usize = 3;
@@ -51,7 +19,7 @@ const LAST_ROW: usize = 16383;
 // A binding, and the number of its property's name, from 1, if it has a property.
 #[derive(Clone, Copy)]
 pub struct Binding {
-    pub role: Role,
+    pub usage: Use,
     pub property: Option<usize>,
 }
 
@@ -60,21 +28,21 @@ impl Binding {
     fn new(role: usize, property: usize, frame: usize, names: usize) -> Option<Binding>
         ensures { HoldsRecord names role property frame result }
     {
-        let role = Role::try_from(role).ok()?;
+        let usage = Use::try_from(role).ok()?;
         if LAST_ROW < frame {
             return None;
         }
         if property == 0 {
             return Some(Binding {
-                role,
+                usage,
                 property: None,
             });
         }
-        if names < property || !matches!(role, Role::Get | Role::Set) {
+        if names < property || !matches!(usage, Use::Get | Use::Set) {
             return None;
         }
         let property = Some(property);
-        Some(Binding { role, property })
+        Some(Binding { usage, property })
     }
 
     // Binding `number`, from 1, if there is one and its record is as it must be with so many names.

@@ -1,6 +1,6 @@
 // The text of a binding whose record is sound. Refusals 10 and 9.
 ghost use Rattle.std.specs.Prelude.{◌≡◌, true, ℕ, ◌<◌, ◌≤◌, length};
-ghost use Rattle.base_text.specs.Bindings.{number_of_role};
+ghost use Rattle.uses.specs.Uses.{use_number};
 ghost use Rattle.base_text.specs.Bases.{base_of, with_property, text_for, property_ok};
 ghost use Rattle.base_text.specs.Refusals.{named_answer, answer_for, Told};
 
@@ -29,10 +29,10 @@ pub fn spell(
     out: &mut [u8],
 ) -> Result<u32, Refusal>
     requires { (length names.now ≤ 32768) × (property_ok names.now text.now binding.property ≡ true) }
-    ensures { Told result (answer_for number (base_of (number_of_role binding.role)) names.now text.now binding.property (length out.old))
-        (text_for (base_of (number_of_role binding.role)) names.now text.now binding.property) out.old out.new }
+    ensures { Told result (answer_for number (base_of (use_number binding.usage)) names.now text.now binding.property (length out.old))
+        (text_for (base_of (use_number binding.usage)) names.now text.now binding.property) out.old out.new }
 {
-    let base = base_of(binding.role);
+    let base = base_of(binding.usage);
     // An access with no property gives the bare base.
     let Some(k) = binding.property else {
         return write(base, b"", b"", out);

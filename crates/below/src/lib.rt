@@ -3,13 +3,14 @@
 
 #![tactic(auto)]
 
-ghost use Rattle.std.specs.Prelude.{◌≡◌, ◌+◌, ◌*◌, ◌<◌, length};
+ghost use Rattle.std.specs.Prelude.{◌≡◌, ◌+◌, ◌*◌, ◌<◌, ◌&&◌, eqb, length};
+ghost use Rattle.grammar.specs.Kinds.{Call, Super};
 ghost use Rattle.names.specs.Words.{words, kind_at, attr_at, name_at, end_at, rows_in};
 ghost use Rattle.steps.specs.Super.{first_super, first_access, first_name, first_inside};
 ghost use Rattle.steps.specs.AfterSuper.{super_call};
 ghost use Rattle.below.specs.Below.{At, children, first_kind, over_super, Firsts, Seen};
 
-use grammar::kinds::{CALL, COMPUTED, MEMBER, SUPER};
+use grammar::kind::Kind;
 use names::words::cell;
 
 // The kinds of the first rows of three levels, each below the one before, and the second one's name.
@@ -31,8 +32,16 @@ pub struct Below {
     pub deep_name: usize,
 }
 
+// A row of a table, by its number: one of rows that nest.
+#[derive(Clone, Copy)]
+pub struct Node<'a> {
+    pub rows: &'a [u8],
+    pub at: usize,
+    pub ghost known: { At rows.now (rows_in rows.now) at },
+}
+
 // One function for each word of a row, here and below: each has a definition of its own, and one over the
-// word's place would be no plainer.
+// word's place would be no plainer. They are no methods of `Node`, as they ask less than it knows.
 
 // The kind of row i.
 pub fn kind_at(rows: &[u8], i: usize) -> usize
@@ -66,90 +75,103 @@ pub fn end_at(rows: &[u8], i: usize) -> usize
     cell(rows, 4 * i + 3)
 }
 
-// The kind of the first child of row i; 0 where it has none.
-fn first_kind(rows: &[u8], i: usize) -> usize
-    requires { At rows.now (rows_in rows.now) i }
-    ensures { result ≡ first_kind (children (words rows.now) i) }
+// Whether a row of that kind is a Super.
+fn is_super(kind: usize) -> bool
+    ensures { result ≡ eqb kind Super }
 {
-    let child = i + 1;
-    if child < end_at(rows, i) {
-        return kind_at(rows, child);
-    }
-    0
+    matches!(Kind::from(kind), Kind::Super)
 }
 
-// The kinds of the first child of row i, of its first child, and of that one's first child.
-fn descend(rows: &[u8], i: usize) -> Levels
-    requires { At rows.now (rows_in rows.now) i }
-    ensures { Firsts (children (words rows.now) i) result.one result.two result.three result.name }
+// Whether a row of that kind over a first child of kind `inner` is `super(..)`.
+fn calls_super(kind: usize, inner: usize) -> bool
+    ensures { result ≡ (eqb kind Call && eqb inner Super) }
 {
-    let child = i + 1;
-    if end_at(rows, i) <= child {
-        return Levels {
-            one: 0,
-            two: 0,
-            three: 0,
-            name: 0,
-        };
-    }
-    let one = kind_at(rows, child);
-    let inner = child + 1;
-    if end_at(rows, child) <= inner {
-        return Levels {
-            one,
-            two: 0,
-            three: 0,
-            name: 0,
-        };
-    }
-    let two = kind_at(rows, inner);
-    let name = name_at(rows, inner);
-    let three = first_kind(rows, inner);
-    Levels {
-        one,
-        two,
-        three,
-        name,
-    }
+    matches!(Kind::from(kind), Kind::Call) & is_super(inner)
 }
 
 // Whether a row of that kind over a first child of kind `inner` is `super.p` or `super[k]`.
 fn over_super(kind: usize, inner: usize) -> bool
     ensures { result ≡ over_super kind inner }
 {
-    ((kind == MEMBER) | (kind == COMPUTED)) & (inner == SUPER)
+    matches!(Kind::from(kind), Kind::Member | Kind::Computed) & is_super(inner)
 }
 
-// Whether the first child of row i is `super(..)`.
-pub fn super_call(rows: &[u8], i: usize) -> bool
-    requires { At rows.now (rows_in rows.now) i }
-    ensures { result ≡ super_call (children (words rows.now) i) }
-{
-    let l = descend(rows, i);
-    (l.one == CALL) & (l.two == SUPER)
-}
+impl Node<'_> {
+    // The kind of its first child; 0 where it has none.
+    fn first_kind(self) -> usize
+        ensures { result ≡ first_kind (children (words self.entry.rows.now) self.entry.at) }
+    {
+        let child = self.at + 1;
+        if child < end_at(self.rows, self.at) {
+            return kind_at(self.rows, child);
+        }
+        0
+    }
 
-// The name of the first child of the first child of row i; 0 where there is none.
-pub fn deep_name(rows: &[u8], i: usize) -> usize
-    requires { At rows.now (rows_in rows.now) i }
-    ensures { (result ≡ first_name (first_inside (children (words rows.now) i))) × (result < 4294967296) }
-{
-    descend(rows, i).name
-}
+    // The kinds of its first child, of that one's first child, and of the first child of that one.
+    fn descend(self) -> Levels
+        ensures { Firsts (children (words self.entry.rows.now) self.entry.at) result.one result.two result.three result.name }
+    {
+        let rows = self.rows;
+        let child = self.at + 1;
+        if end_at(rows, self.at) <= child {
+            return Levels {
+                one: 0,
+                two: 0,
+                three: 0,
+                name: 0,
+            };
+        }
+        let one = kind_at(rows, child);
+        let inner = child + 1;
+        if end_at(rows, child) <= inner {
+            return Levels {
+                one,
+                two: 0,
+                three: 0,
+                name: 0,
+            };
+        }
+        let two = kind_at(rows, inner);
+        let name = name_at(rows, inner);
+        let lower = Node { rows, at: inner };
+        let three = lower.first_kind();
+        Levels {
+            one,
+            two,
+            three,
+            name,
+        }
+    }
 
-// All five at once, by at most seven words read.
-pub fn look(rows: &[u8], i: usize) -> Below
-    requires { At rows.now (rows_in rows.now) i }
-    ensures { Seen (children (words rows.now) i) result }
-{
-    let l = descend(rows, i);
-    let first = over_super(l.one, l.two);
-    let deep = over_super(l.two, l.three);
-    Below {
-        first_super: l.one == SUPER,
-        first_access: first,
-        super_call: (l.one == CALL) & (l.two == SUPER),
-        deep_access: deep,
-        deep_name: l.name,
+    // Whether its first child is `super(..)`.
+    pub fn super_call(self) -> bool
+        ensures { result ≡ super_call (children (words self.entry.rows.now) self.entry.at) }
+    {
+        let l = self.descend();
+        calls_super(l.one, l.two)
+    }
+
+    // The name of the first child of its first child; 0 where there is none.
+    pub fn deep_name(self) -> usize
+        ensures { (result ≡ first_name (first_inside (children (words self.entry.rows.now) self.entry.at))) × (result < 4294967296) }
+    {
+        self.descend().name
+    }
+
+    // All five at once, by at most seven words read.
+    pub fn look(self) -> Below
+        ensures { Seen (children (words self.entry.rows.now) self.entry.at) result }
+    {
+        let l = self.descend();
+        let first = over_super(l.one, l.two);
+        let deep = over_super(l.two, l.three);
+        Below {
+            first_super: is_super(l.one),
+            first_access: first,
+            super_call: calls_super(l.one, l.two),
+            deep_access: deep,
+            deep_name: l.name,
+        }
     }
 }

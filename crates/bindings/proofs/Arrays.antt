@@ -1,27 +1,13 @@
 -- The records in the array: reading them back after stores. Assumes nothing.
 use mathlib.Core.Path.{◌≡◌, refl, ap, sym, ◌∙◌}
 use mathlib.Core.List.{List, [], ◌∷◌, ◌++◌}
-use mathlib.Core.Bool.{Bool, true, false, cond}
 use Prim.Native.Nat.{ℕ, zero, suc, ◌+◌, ◌*◌, ◌<◌, ◌≤◌}
 use native.Mathlib.Omega.{arith}
-use native.Mathlib.Nat.{add-zero, mul-le-mul_right}
+use native.Mathlib.Nat.{add-zero}
 use lib.ListN.{length, get_or, set, length-set}
 use lib.Seq.{get_or-set_same, get_or-set_other}
 use Rattle.steps.specs.Bindings.{Binding, Binding.bind}
 use Rattle.bindings.specs.Store.{bind_at, binds_from, binds, pushed}
-
--- word i of table t, which is before table n
-pub in_tables : {t n cap i : ℕ} → t < n → i < cap → t * cap + i < n * cap
-in_tables {t} {n} {cap} {i} h k = let l : suc t * cap ≤ n * cap = mul-le-mul_right cap (omega arith) in omega arith
-
--- .. of one of two tables
-pub place_of : (y : Bool) (a b cap i : ℕ) → cond y a b * cap + i ≡ cond y (a * cap + i) (b * cap + i)
-place_of true a b cap i = refl
-place_of false a b cap i = refl
-
-pub place_in : (y : Bool) {a b cap i n t : ℕ} → (a < n) × (b < n) → i < cap → t ≡ cond y a b → t * cap + i < n * cap
-place_in true h k e = in_tables (omega (arith, e, h.0)) k
-place_in false h k e = in_tables (omega (arith, e, h.1)) k
 
 pub binds-length : (M : List ℕ) (cap b n : ℕ) → length (binds_from M cap b n) ≡ n
 unfolding binds_from

@@ -3,7 +3,7 @@ use mathlib.Core.Path.{◌≡◌, refl, ap, sym, subst, ◌∙◌}
 use mathlib.Core.List.{List, [], ◌∷◌, ◌++◌}
 use Prim.Native.Nat.{ℕ, suc, ◌+◌, ◌*◌, ◌-◌, ◌<◌, ◌≤◌}
 use mathlib.Core.Logic.{◌⊎◌, inl, inr, ⊎_elim}
-use mathlib.Core.Bool.{Bool, true, false, cond, ◌&&◌, ◌||◌, true≢false, false≢true}
+use mathlib.Core.Bool.{Bool, true, false, cond, ◌||◌, true≢false, false≢true}
 use native.Mathlib.Omega.{arith}
 use borrow.Author.Tests.{eqb-true, eqb-false, ne_eqb, eq-eqb}
 use lib.Dec.{eqb}
@@ -17,6 +17,7 @@ use Rattle.bindings.specs.Post.{Kept}
 use Rattle.buckets.proofs.Searches.{first-other, first_new, first-stays, none_alike, last_in, last-holds, chain_end}
 use Rattle.bindings.proofs.Arrays.{binds-length, binds-at, same-binds, pushed_long, pushed-later, pushed-binds}
 use Rattle.bindings.proofs.Storing.{first_range, last-range, bare_snoc, drop-none, first-kept, last-kept, first-set, last_set, behind, old_bind, le_cases}
+use Rattle.names.proofs.Bools.{and_parts}
 
 -- an accessor is no parameter, and each binding has one frame
 uses_apart : (u : ℕ) → is_param u ≡ true → is_accessor u ≡ true → ⊥
@@ -31,10 +32,6 @@ uses_apart u p a = go (eqb u 5) refl p
     go : (t : Bool) → eqb u 5 ≡ t → (t || eqb u 6) ≡ true → ⊥
     go true q h = no-five (eqb-true u 5 q)
     go false q h = no_six (eqb-true u 6 h)
-
-and_parts : (x y : Bool) → (x && y) ≡ true → (x ≡ true) × (y ≡ true)
-and_parts true y h = (refl, h)
-and_parts false y h = absurd (false≢true h)
 
 pub class_one : (param param' : Bool) (g g' : ℕ) (b : Binding) → of_class param g b ≡ true → of_class param' g' b ≡ true → (param ≡ param') × (g ≡ g')
 unfolding of_class

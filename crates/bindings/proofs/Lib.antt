@@ -6,3 +6,4 @@ pub mod Closing
 pub mod Filing
 pub mod Finding
 pub mod Numbered
+pub mod Uses

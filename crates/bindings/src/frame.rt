@@ -1,15 +1,16 @@
 // A frame, by its row, and the bindings that are made: what the second walk asks of it.
-ghost use Rattle.std.specs.Prelude.{◌≡◌, ℕ, ◌<◌, true};
-ghost use Rattle.spelling.specs.Spelling.{GivenNames};
+ghost use Rattle.std.specs.Prelude.{◌≡◌, ℕ, ◌<◌, true, false};
+ghost use Rattle.uses.specs.Uses.{access_number};
 ghost use Rattle.steps.specs.Outcome.{names_of};
 ghost use Rattle.steps.specs.Bindings.{number};
-ghost use Rattle.bindings.specs.Search.{is_accessor};
-ghost use Rattle.bindings.specs.Store.{binds};
+ghost use Rattle.bindings.specs.Store.{binds, this_at, arguments_at, first_at};
 ghost use Rattle.bindings.specs.Filed.{Filed, behind};
 
-use crate::bucket;
 use crate::view::Bindings;
+use crate::{ARGUMENTS, FIRST_ACCESSOR, FIRST_PARAM, THIS, bucket};
 use buckets::pick;
+use spelling::Names;
+use uses::Access;
 
 #[derive(Clone, Copy)]
 pub struct Frame<'a> {
@@ -19,22 +20,49 @@ pub struct Frame<'a> {
 }
 
 impl Frame<'_> {
-    // The number of the frame's accessor of that use (3 get, 4 set) and property, 0 where it has none.
+    // Its capture of `this`.
+    pub fn this_of(self) -> u32
+        ensures { result ≡ this_at self.entry.bindings.made.now self.entry.bindings.cap self.entry.row }
+    {
+        self.bindings.word(THIS, self.row)
+    }
+
+    // Its capture of `arguments`.
+    pub fn arguments_of(self) -> u32
+        ensures { result ≡ arguments_at self.entry.bindings.made.now self.entry.bindings.cap self.entry.row }
+    {
+        self.bindings.word(ARGUMENTS, self.row)
+    }
+
+    // Its first accessor.
+    pub fn first_accessor(self) -> u32
+        ensures { result ≡ first_at self.entry.bindings.made.now false self.entry.bindings.cap self.entry.row }
+    {
+        self.bindings.word(FIRST_ACCESSOR, self.row)
+    }
+
+    // The first parameter of its accessors.
+    pub fn first_param(self) -> u32
+        ensures { result ≡ first_at self.entry.bindings.made.now true self.entry.bindings.cap self.entry.row }
+    {
+        self.bindings.word(FIRST_PARAM, self.row)
+    }
+
+    // The number of the frame's accessor of that use and property, 0 where it has none.
     // The accessors of its bucket are looked at one by one, from the last to the first.
-    pub fn accessor(self, names: &[u8], text: &[u8], u: usize, x: usize) -> usize
-        requires given_names { GivenNames names.now text.now }
-        requires u_value { is_accessor u ≡ true }
-        requires filed { Filed names.now text.now (behind self.bindings.cap self.bindings.made.now) self.bindings.cap (binds self.bindings.made.now self.bindings.cap self.bindings.count) }
-        ensures { (result ≡ number (names_of names.now text.now) (binds self.entry.bindings.made.now self.entry.bindings.cap self.entry.bindings.count) u self.entry.row x) × (result < self.entry.bindings.cap) }
+    pub fn accessor(self, names: &Names<'_>, access: Access, x: usize) -> usize
+        requires filed { Filed names.now.pairs.now names.now.text.now (behind self.bindings.cap self.bindings.made.now) self.bindings.cap (binds self.bindings.made.now self.bindings.cap self.bindings.count) }
+        ensures { (result ≡ number (names_of names.now.pairs.now names.now.text.now) (binds self.entry.bindings.made.now self.entry.bindings.cap self.entry.bindings.count) (access_number access) self.entry.row x)
+            × (result < self.entry.bindings.cap) }
     {
         let all = self.bindings;
         let row = self.row;
-        let h = bucket(names, text, all.cap, u, row, x);
+        let h = bucket(names, all.cap, access, row, x);
         let mut found: usize = 0;
         let mut b = all.last_in(h);
-        // A chain of numbers, no counted index: an iterator over it would be no plainer.
+        // A loop by hand: a chain of numbers, no counted index, for which an iterator would be no plainer.
         while b != 0 {
-            let it = all.is_it(names, text, b, u, row, x);
+            let it = all.is_it(names, b, access, row, x);
             found = pick(it, b, found);
             b = all.before(b);
         }

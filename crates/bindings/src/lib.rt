@@ -10,9 +10,8 @@ pub mod frame;
 pub mod maker;
 pub mod view;
 
-ghost use Rattle.std.specs.Prelude.{◌≡◌, Bool, true, cond, ℕ, ◌+◌, ◌*◌, ◌<◌, ◌≤◌, List, [], ◌∷◌, ◌++◌, length, get_or, set};
-ghost use Rattle.spelling.specs.Spelling.{GivenNames};
-ghost use Rattle.steps.specs.Outcome.{names_of};
+ghost use Rattle.std.specs.Prelude.{◌≡◌, Bool, true, cond, ℕ, ◌+◌, ◌*◌, ◌<◌, ◌≤◌, [], ◌∷◌, ◌++◌, length, get_or, set};
+ghost use Rattle.uses.specs.Uses.{use_number, access_number};
 ghost use Rattle.steps.specs.Bindings.{Binding, Binding.bind};
 ghost use Rattle.bindings.specs.Search.{is_param, is_accessor, one_param, params_for};
 ghost use Rattle.bindings.specs.Store.{binds, pushed, chained, last_table, link_table};
@@ -20,18 +19,8 @@ ghost use Rattle.bindings.specs.Post.{Kept, Asked, Room};
 ghost use Rattle.bindings.specs.Filed.{behind, bucket_of};
 
 use buckets::pick;
-
-// What a binding is for, by the number that its record gives: a capture of `this` or of `arguments`, an
-// accessor that gets or sets, a parameter of one for a computed property or for the value.
-#[derive(Clone, Copy, PartialEq, Eq)]
-pub enum Use {
-    This = 1,
-    Arguments,
-    Get,
-    Set,
-    Prop,
-    Value,
-}
+use spelling::Names;
+use uses::{Access, Use};
 
 // The words of a record: as many tables, by binding. Behind them stand the other tables.
 const RECORD: usize = 3;
@@ -55,6 +44,9 @@ const LAST_PARAM: usize = RECORD + 6;
 // By bucket: its last accessor. Behind it, by binding, the accessor before it in its bucket.
 const BUCKETS: usize = RECORD + 7;
 
+// How many tables there are: the array has TABLES * cap words.
+pub const TABLES: usize = BUCKETS + 2;
+
 // Word j of the array.
 fn entry(made: &[u32], j: usize) -> usize
     requires { j < length made.now }
@@ -64,11 +56,11 @@ fn entry(made: &[u32], j: usize) -> usize
 }
 
 // Writes the record of binding b.
-fn push(made: &mut [u32], cap: usize, b: usize, u: u32, x: u32, f: usize)
-    requires { (length made.old ≡ 12 * cap) × ((b < cap) × ((f < cap) × (cap ≤ 16384))) }
-    ensures { made.new ≡ pushed made.old cap b u x f }
+fn push(made: &mut [u32], cap: usize, b: usize, usage: Use, x: u32, f: usize)
+    requires { (length made.old ≡ TABLES * cap) × ((b < cap) × ((f < cap) × (cap ≤ 16384))) }
+    ensures { made.new ≡ pushed made.old cap b (use_number usage) x f }
 {
-    made[b] = u;
+    made[b] = usage.number();
     made[cap + b] = x;
     made[2 * cap + b] = f as u32;
 }
@@ -94,7 +86,7 @@ fn link_table(cap: usize, param: bool, f: usize, last: usize) -> usize
 
 // Puts binding b behind the last of its chain.
 fn chain(made: &mut [u32], cap: usize, param: bool, f: usize, b: usize)
-    requires made_len { (length made.old ≡ 12 * cap) × ((b < cap) × ((f < cap) × (cap ≤ 16384))) }
+    requires made_len { (length made.old ≡ TABLES * cap) × ((b < cap) × ((f < cap) × (cap ≤ 16384))) }
     requires f_bound { get_or made.old (last_table param cap f) 0 < cap }
     ensures { made.new ≡ chained made.old cap param f b }
 {
@@ -106,28 +98,36 @@ fn chain(made: &mut [u32], cap: usize, param: bool, f: usize, b: usize)
 }
 
 // Binding count + 1, chained: an accessor, or a parameter of one.
-fn add(made: &mut [u32], cap: usize, count: usize, u: u32, x: u32, f: usize, param: bool) -> usize
+fn add(
+    made: &mut [u32],
+    cap: usize,
+    count: usize,
+    usage: Use,
+    x: u32,
+    f: usize,
+    param: bool,
+) -> usize
     requires room { Room made.old cap f count }
-    requires u_value { cond param (is_param u) (is_accessor u) ≡ true }
-    ensures kept { Kept made.new cap (binds made.old cap count ++ (bind u x f ∷ [])) result }
+    requires u_value { cond param (is_param (use_number usage)) (is_accessor (use_number usage)) ≡ true }
+    ensures kept { Kept made.new cap (binds made.old cap count ++ (bind (use_number usage) x f ∷ [])) result }
     ensures value { result ≡ count + 1 }
     ensures made_unchanged { behind cap made.new ≡ behind cap made.old }
 {
     let b = count + 1;
-    push(made, cap, b, u, x, f);
+    push(made, cap, b, usage, x, f);
     chain(made, cap, param, f, b);
     b
 }
 
 // One parameter of an accessor, where it is wanted.
-fn add_one(made: &mut [u32], cap: usize, count: usize, wanted: bool, u: u32, f: usize) -> usize
-    requires asked { Asked made.old cap f count (binds made.old cap count ++ one_param wanted u f) }
-    requires u_value { is_param u ≡ true }
-    ensures kept { Kept made.new cap (binds made.old cap count ++ one_param wanted u f) result }
+fn add_one(made: &mut [u32], cap: usize, count: usize, wanted: bool, usage: Use, f: usize) -> usize
+    requires asked { Asked made.old cap f count (binds made.old cap count ++ one_param wanted (use_number usage) f) }
+    requires u_value { is_param (use_number usage) ≡ true }
+    ensures kept { Kept made.new cap (binds made.old cap count ++ one_param wanted (use_number usage) f) result }
     ensures made_unchanged { behind cap made.new ≡ behind cap made.old }
 {
     if wanted {
-        return add(made, cap, count, u, 0, f, true);
+        return add(made, cap, count, usage, 0, f, true);
     }
     count
 }
@@ -138,30 +138,36 @@ fn add_params(made: &mut [u32], cap: usize, count: usize, u: usize, x: usize, f:
     ensures kept { Kept made.new cap (binds made.old cap count ++ params_for u x f) result }
     ensures made_unchanged { behind cap made.new ≡ behind cap made.old }
 {
-    let computed = add_one(made, cap, count, x == 0, Use::Prop as u32, f);
+    let computed = add_one(made, cap, count, x == 0, Use::Prop, f);
     add_one(
         made,
         cap,
         computed,
-        u == Use::Set as usize,
-        Use::Value as u32,
+        u == Use::Set.number() as usize,
+        Use::Value,
         f,
     )
 }
 
-// The bucket of an accessor.
-fn bucket(names: &[u8], text: &[u8], cap: usize, u: usize, f: usize, x: usize) -> usize
-    requires given_names { GivenNames names.now text.now }
-    requires cap_nonzero { (0 < cap) × ((f < 16384) × (u < 16384)) }
-    ensures { (result ≡ bucket_of names.now text.now cap u f x) × (result < cap) }
+// The word of a record that says what an accessor does.
+fn access_word(access: Access) -> usize
+    ensures { result ≡ access_number access }
 {
-    let number = spelling::hash(names, text, x);
-    (number + 613 * f + u) % cap
+    Use::from(access).number() as usize
+}
+
+// The bucket of an accessor.
+fn bucket(names: &Names<'_>, cap: usize, access: Access, f: usize, x: usize) -> usize
+    requires { (0 < cap) × (f < 16384) }
+    ensures { (result ≡ bucket_of names.now.pairs.now names.now.text.now cap (access_number access) f x) × (result < cap) }
+{
+    let number = names.hash(x);
+    (number + 613 * f + access_word(access)) % cap
 }
 
 // Puts accessor b into bucket h.
 fn file(made: &mut [u32], cap: usize, h: usize, b: usize)
-    requires { (length made.old ≡ 12 * cap) × ((b < cap) × ((h < cap) × (cap ≤ 16384))) }
+    requires { (length made.old ≡ TABLES * cap) × ((b < cap) × ((h < cap) × (cap ≤ 16384))) }
     ensures { made.new ≡ set (set made.old (10 * cap + (cap + b)) (get_or made.old (10 * cap + h) 0)) (10 * cap + h) b }
 {
     let last = BUCKETS * cap + h;

@@ -1,13 +1,15 @@
 // The bindings that are made, to be read: the lent array, and how many it holds. What stands where in the
 // array is known here and in `maker` alone. A number that is 0 says that there is none.
 ghost use Rattle.std.specs.Prelude.{◌≡◌, ℕ, ◌+◌, ◌*◌, ◌<◌, ◌≤◌, true, false, get_or};
-ghost use Rattle.spelling.specs.Spelling.{GivenNames};
+ghost use Rattle.uses.specs.Uses.{access_number};
 ghost use Rattle.steps.specs.Outcome.{names_of};
 ghost use Rattle.steps.specs.Bindings.{is};
 ghost use Rattle.std.proofs.Props.{props};
-ghost use Rattle.bindings.specs.Store.{Store, Bare-prop, bind_at, use_at, property_at, frame_at, this_at, arguments_at, first_at, next_at};
+ghost use Rattle.bindings.specs.Store.{Store, Bare-prop, bind_at, use_at, property_at, frame_at, next_at};
 
-use crate::{ARGUMENTS, BUCKETS, FIRST_ACCESSOR, FIRST_PARAM, NEXT, THIS};
+use crate::{BUCKETS, NEXT, TABLES, access_word};
+use spelling::Names;
+use uses::Access;
 
 #[derive(Clone, Copy)]
 pub struct Bindings<'a> {
@@ -28,43 +30,11 @@ pub struct Record {
 
 impl Bindings<'_> {
     // Word `at` of that table.
-    fn word(self, table: usize, at: usize) -> u32
-        requires { (table < 12) × (at < self.cap) }
+    pub(crate) fn word(self, table: usize, at: usize) -> u32
+        requires { (table < TABLES) × (at < self.cap) }
         ensures { result ≡ get_or self.entry.made.now (table * self.entry.cap + at) 0 }
     {
         self.made[table * self.cap + at]
-    }
-
-    // The capture of `this` in frame f.
-    pub fn this_of(self, f: usize) -> u32
-        requires { f < self.cap }
-        ensures { result ≡ this_at self.entry.made.now self.entry.cap f }
-    {
-        self.word(THIS, f)
-    }
-
-    // The capture of `arguments` in frame f.
-    pub fn arguments_of(self, f: usize) -> u32
-        requires { f < self.cap }
-        ensures { result ≡ arguments_at self.entry.made.now self.entry.cap f }
-    {
-        self.word(ARGUMENTS, f)
-    }
-
-    // The first accessor of frame f.
-    pub fn first_accessor(self, f: usize) -> u32
-        requires { f < self.cap }
-        ensures { result ≡ first_at self.entry.made.now false self.entry.cap f }
-    {
-        self.word(FIRST_ACCESSOR, f)
-    }
-
-    // The first parameter of the accessors of frame f.
-    pub fn first_param(self, f: usize) -> u32
-        requires { f < self.cap }
-        ensures { result ≡ first_at self.entry.made.now true self.entry.cap f }
-    {
-        self.word(FIRST_PARAM, f)
     }
 
     // The accessor behind accessor b in its frame, or the parameter behind parameter b.
@@ -106,26 +76,24 @@ impl Bindings<'_> {
         self.word(BUCKETS + 1, b) as usize
     }
 
-    // Whether binding b has that use, frame and property.
+    // Whether binding b is that accessor, of that frame and property.
     pub(crate) fn is_it(
         self,
-        names: &[u8],
-        text: &[u8],
+        names: &Names<'_>,
         b: usize,
-        u: usize,
+        access: Access,
         f: usize,
         x: usize,
     ) -> bool
-        requires b_bound { b < self.cap }
-        requires given_names { GivenNames names.now text.now }
-        ensures { result ≡ is (names_of names.now text.now) u f x (bind_at self.entry.made.now self.entry.cap b) }
+        requires { b < self.cap }
+        ensures { result ≡ is (names_of names.now.pairs.now names.now.text.now) (access_number access) f x (bind_at self.entry.made.now self.entry.cap b) }
     {
         if self.made[2 * self.cap + b] as usize != f {
             return false;
         }
-        if self.made[b] as usize != u {
+        if self.made[b] as usize != access_word(access) {
             return false;
         }
-        spelling::same_name(names, text, self.made[self.cap + b] as usize, x)
+        names.same_name(self.made[self.cap + b] as usize, x)
     }
 }

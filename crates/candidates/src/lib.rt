@@ -25,12 +25,8 @@ pub struct Checked<'a> {
     pub ghost sound: { Sound script.bindings.now script.names.now script.text.now },
 }
 
-// Room for a base text, which has at most 270 bytes.
-fn base_room() -> [u8; 272]
-    ensures { 272 ≡ length result }
-{
-    [0; 272]
-}
+// The most bytes of a base text are 270; it is written into an array of this size.
+const BASE_ROOM: usize = 272;
 
 // Writes the base text of binding b, from 1, to the front of `out`.
 fn spell(b: u32, script: Script, out: &mut [u8]) -> usize
@@ -48,7 +44,7 @@ pub fn put_candidate(out: &mut [u8], at: usize, b: u32, n: u32, script: Script) 
     requires at_bound { at < 2 ^ 59 }
     ensures { (Wrote out.old at (candidate (base_text b script.entry.bindings.now script.entry.names.now script.entry.text.now) n) result out.new) × (result ≤ at + 281) }
 {
-    let mut base = base_room();
+    let mut base = [0; BASE_ROOM];
     let count = spell(b, script, &mut base);
     let first = put_byte(out, at, UNDERSCORE);
     let end = put_bytes(out, first, &base[..count]);
@@ -64,7 +60,7 @@ pub fn first_fault(script: Script) -> Result<(), Refusal>
     ensures { result ≡ first_fault script.entry.bindings.now script.entry.names.now script.entry.text.now }
 {
     let count = base_text::records_in(script.bindings) as u32;
-    let mut out = base_room();
+    let mut out = [0; BASE_ROOM];
     for b in 1..=count {
         base_text::text_of(b, script, &mut out)?;
     }

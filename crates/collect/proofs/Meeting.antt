@@ -13,9 +13,10 @@ use Rattle.bindings.specs.Post.{Kept, Asked}
 use Rattle.bindings.specs.Filed.{Filed, behind}
 use Rattle.bindings.proofs.Filing.{filed_capture}
 use Rattle.bindings.proofs.Numbered.{note-capture}
-use Rattle.passes.specs.View.{capture_number, access_number, op_of}
-use Rattle.passes.specs.declared.Capture.{Capture}
-use Rattle.passes.specs.declared.Access.{Access}
+use Rattle.uses.specs.Uses.{capture_number, access_number}
+use Rattle.uses.specs.declared.Capture.{Capture}
+use Rattle.uses.specs.declared.Access.{Access}
+use Rattle.passes.specs.View.{op_of}
 use Rattle.passes.specs.declared.Becomes.{Becomes}
 use Rattle.passes.specs.declared.Becomes.TheVariants as becomes
 use Rattle.plan.specs.Frames.{OpLow}
@@ -37,46 +38,43 @@ module _ (N : Names) (M : List ℕ) (cap count : ℕ) (op : Becomes) where
   unfolding meet op_of
   drop_meets q m = record { store = m.store; list = sym (ap (λ (o : Becomes). meet N (op_of o) (binds M cap count)) q) }
 
-  module _ (v : Capture) (u f : ℕ) (e : u ≡ capture_number v) (q : op ≡ becomes.Name v f) (m : Meets M cap count op met) where
-    name-low : (0 < u) × ((u ≤ 2) × (f < cap))
+  module _ (v : Capture) (f : ℕ) (q : op ≡ becomes.Name v f) (m : Meets M cap count op met) where
+    name-low : (0 < capture_number v) × ((capture_number v ≤ 2) × (f < cap))
     unfolding op_of
-    name-low = subst (λ (x : ℕ). OpLow cap (name x f)) (sym e) (subst (λ (o : Becomes). OpLow cap (op_of o)) q m.low)
+    name-low = subst (λ (o : Becomes). OpLow cap (op_of o)) q m.low
 
-    name-is : note_capture u f (binds M cap count) ≡ met
+    name-is : note_capture (capture_number v) f (binds M cap count) ≡ met
     unfolding meet op_of
-    name-is = note-capture N u f name-low.1.0 (binds M cap count) m.store.bare ∙ ap (λ (x : ℕ). meet N (name x f) (binds M cap count)) e ∙ sym (ap (λ (o : Becomes). meet N (op_of o) (binds M cap count)) q)
+    name-is = note-capture N (capture_number v) f name-low.1.0 (binds M cap count) m.store.bare ∙ sym (ap (λ (o : Becomes). meet N (op_of o) (binds M cap count)) q)
 
-    pub name-asks : ((0 < u) × (u ≤ 2)) × Asked M cap f count (note_capture u f (binds M cap count))
-    name-asks = (
-      (name-low.0, name-low.1.0),
-      record { store = m.store; row_low = name-low.1.1; cap_low = m.cap_low; room = subst (λ (l : List Binding). length l < cap) (sym name-is) m.room },
-    )
+    pub name-asks : Asked M cap f count (note_capture (capture_number v) f (binds M cap count))
+    name-asks = record { store = m.store; row_low = name-low.1.1; cap_low = m.cap_low; room = subst (λ (l : List Binding). length l < cap) (sym name-is) m.room }
 
     pub name-filed : (M' : List ℕ) → Filed N.pairs N.text (behind cap M) cap (binds M cap count) → behind cap M' ≡ behind cap M → Filed N.pairs N.text (behind cap M') cap met
-    name-filed M' F h = subst (λ (I : List ℕ). Filed N.pairs N.text I cap met) (sym h) (subst (λ (l : List Binding). Filed N.pairs N.text (behind cap M) cap l) name-is (filed_capture u f name-low.1.0 F))
+    name-filed M' F h = subst (λ (I : List ℕ). Filed N.pairs N.text I cap met) (sym h) (subst (λ (l : List Binding). Filed N.pairs N.text (behind cap M) cap l) name-is (filed_capture (capture_number v) f name-low.1.0 F))
 
-    pub name_meets : (M' : List ℕ) (count' : ℕ) → Kept M' cap (note_capture u f (binds M cap count)) count' → Kept M' cap met count'
+    pub name_meets : (M' : List ℕ) (count' : ℕ) → Kept M' cap (note_capture (capture_number v) f (binds M cap count)) count' → Kept M' cap met count'
     name_meets M' count' k = subst (λ (l : List Binding). Kept M' cap l count') name-is k
 
-  module _ (v : Access) (u f x : ℕ) (t : Bool) (e : u ≡ access_number v) (q : op ≡ becomes.Call v f x t) (m : Meets M cap count op met) where
-    call-low : (is_accessor u ≡ true) × ((f < cap) × (x < 4294967296))
+  module _ (v : Access) (f x : ℕ) (t : Bool) (q : op ≡ becomes.Call v f x t) (m : Meets M cap count op met) where
+    call-low : (is_accessor (access_number v) ≡ true) × ((f < cap) × (x < 4294967296))
     unfolding op_of
-    call-low = subst (λ (y : ℕ). OpLow cap (call y f x t)) (sym e) (subst (λ (o : Becomes). OpLow cap (op_of o)) q m.low)
+    call-low = subst (λ (o : Becomes). OpLow cap (op_of o)) q m.low
 
-    call-is : note N u f x (binds M cap count) ≡ met
+    call-is : note N (access_number v) f x (binds M cap count) ≡ met
     unfolding meet op_of
-    call-is = ap (λ (y : ℕ). note N y f x (binds M cap count)) e ∙ sym (ap (λ (o : Becomes). meet N (op_of o) (binds M cap count)) q)
+    call-is = sym (ap (λ (o : Becomes). meet N (op_of o) (binds M cap count)) q)
 
     pub property-small : x < 4294967296
     property-small = call-low.1.1
 
-    pub call_asks : Asked M cap f count (note N u f x (binds M cap count)) × (is_accessor u ≡ true)
-    call_asks = (record { store = m.store; row_low = call-low.1.0; cap_low = m.cap_low; room = subst (λ (l : List Binding). length l < cap) (sym call-is) m.room }, call-low.0)
+    pub call_asks : Asked M cap f count (note N (access_number v) f x (binds M cap count))
+    call_asks = record { store = m.store; row_low = call-low.1.0; cap_low = m.cap_low; room = subst (λ (l : List Binding). length l < cap) (sym call-is) m.room }
 
-    pub call-meets : (M' : List ℕ) (count' : ℕ) → Kept M' cap (note N u f x (binds M cap count)) count' → Kept M' cap met count'
+    pub call-meets : (M' : List ℕ) (count' : ℕ) → Kept M' cap (note N (access_number v) f x (binds M cap count)) count' → Kept M' cap met count'
     call-meets M' count' k = subst (λ (l : List Binding). Kept M' cap l count') call-is k
 
-    pub call-filed : (M' : List ℕ) → Filed N.pairs N.text (behind cap M') cap (note N u f x (binds M cap count)) → Filed N.pairs N.text (behind cap M') cap met
+    pub call-filed : (M' : List ℕ) → Filed N.pairs N.text (behind cap M') cap (note N (access_number v) f x (binds M cap count)) → Filed N.pairs N.text (behind cap M') cap met
     call-filed M' F = subst (λ (l : List Binding). Filed N.pairs N.text (behind cap M') cap l) call-is F
 
 -- the new This, captured or not

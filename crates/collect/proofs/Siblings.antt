@@ -24,7 +24,6 @@ use Rattle.bindings.specs.Filed.{Filed, behind}
 use Rattle.bindings.proofs.Filing.{filed_capture, filed_closed}
 use Rattle.bindings.proofs.Numbered.{note-capture}
 use Rattle.passes.specs.View.{op_of}
-use Rattle.plan.specs.declared.Act.{Act as Acted}
 use Rattle.plan.specs.Placing.{place_of}
 use Rattle.plan.specs.Taking.{Takes, ActLow}
 use Rattle.plan.specs.Frames.{FramesBelow, Small}
@@ -34,6 +33,8 @@ use Rattle.plan.specs.Staying.{Stays}
 use Rattle.collect.specs.Collecting.{Meets, Finishes, RowCollects, Collects, is_called, leave_capture, row_c}
 use Rattle.collect.proofs.Meeting.{filed_as}
 use Rattle.collect.proofs.Finishing.{shorter}
+use Rattle.acts.specs.declared.act.Act.{Act as Acted}
+use Rattle.plan.specs.declared.place.Place.{Place}
 
 -- the code's `leave` is the steps'
 leave_same : (N : Names) (c : Ctx) (op : Op) (bs : List Binding) → Bare bs → leave_capture c op bs ≡ leave N c op bs
@@ -97,7 +98,7 @@ module _ (N : Names) (w : Switches) {rows : List ℕ} {cap : ℕ} {M : List ℕ}
     unfolding collect_c
     passed-leaf h = record { store = P.store; list = ap (λ (f : Rows). collect_c N w along along (i + 1) f (binds M cap count)) (sym (rows_none ws (i + 1) stop h)) ∙ passed-same }
 
-  module _ {r : Acted} (d : Takes w q.ctx (act_c N w q i (kind_at ws i) (attr_at ws i) (name_at ws i) (children ws i)) r) (small : Small ws i) where
+  module _ {r : Acted Place} (d : Takes w q.ctx (act_c N w q i (kind_at ws i) (attr_at ws i) (name_at ws i) (children ws i)) r) (small : Small ws i) where
     abbrev A : Act
     A = act_c N w q i (kind_at ws i) (attr_at ws i) (name_at ws i) (children ws i)
 

@@ -6,7 +6,6 @@
 ghost use Rattle.std.specs.Prelude.{◌≡◌, Bool, ℕ, []};
 ghost use Rattle.names.specs.Words.{words, rows_in};
 ghost use Rattle.forest.specs.Forest.{rows_at, table};
-ghost use Rattle.spelling.specs.Spelling.{GivenNames};
 ghost use Rattle.steps.specs.Outcome.{names_of};
 ghost use Rattle.steps.specs.Bindings as steps;
 ghost use Rattle.steps.specs.Context.{collect_c, made_c};
@@ -21,24 +20,24 @@ ghost use Rattle.collect.specs.Collecting.{Meets, Finishes, RowCollects, Collect
 
 use acts::context::Context;
 use acts::switches::Switches;
-use below::{attr_at, end_at, kind_at};
-use bindings::Use;
+use below::{Node, attr_at, end_at, kind_at};
 use bindings::maker::Maker;
 use passes::{Becomes, closes};
 use plan::act_at;
 use plan::late::is_late;
 use plan::place::{Place, program};
 use plan::stays::stays;
+use spelling::Names;
+use uses::Capture;
 
 // What a row meets before its children.
-fn meet(op: Becomes, maker: &mut Maker<'_>, names: &[u8], text: &[u8])
-    requires meets { Meets maker.old.made.now maker.old.cap maker.old.count op (steps.meet (names_of names.now text.now) (op_of op) (binds maker.old.made.now maker.old.cap maker.old.count)) }
-    requires given_names { GivenNames names.now text.now }
-    requires filed { Filed names.now text.now (behind maker.old.cap maker.old.made.now) maker.old.cap (binds maker.old.made.now maker.old.cap maker.old.count) }
+fn meet(op: Becomes, maker: &mut Maker<'_>, names: &Names<'_>)
+    requires meets { Meets maker.old.made.now maker.old.cap maker.old.count op (steps.meet (names_of names.now.pairs.now names.now.text.now) (op_of op) (binds maker.old.made.now maker.old.cap maker.old.count)) }
+    requires filed { Filed names.now.pairs.now names.now.text.now (behind maker.old.cap maker.old.made.now) maker.old.cap (binds maker.old.made.now maker.old.cap maker.old.count) }
     ensures same_reference { maker.new.made.ghost_name ≡ maker.old.made.ghost_name }
     ensures cap_value { maker.new.cap ≡ maker.old.cap }
-    ensures kept { Kept maker.new.made.now maker.old.cap (steps.meet (names_of names.now text.now) (op_of op) (binds maker.old.made.now maker.old.cap maker.old.count)) maker.new.count }
-    ensures filed_2 { Filed names.now text.now (behind maker.old.cap maker.new.made.now) maker.old.cap (steps.meet (names_of names.now text.now) (op_of op) (binds maker.old.made.now maker.old.cap maker.old.count)) }
+    ensures kept { Kept maker.new.made.now maker.old.cap (steps.meet (names_of names.now.pairs.now names.now.text.now) (op_of op) (binds maker.old.made.now maker.old.cap maker.old.count)) maker.new.count }
+    ensures filed_2 { Filed names.now.pairs.now names.now.text.now (behind maker.old.cap maker.new.made.now) maker.old.cap (steps.meet (names_of names.now.pairs.now names.now.text.now) (op_of op) (binds maker.old.made.now maker.old.cap maker.old.count)) }
 {
     match op {
         Becomes::Row {
@@ -47,13 +46,13 @@ fn meet(op: Becomes, maker: &mut Maker<'_>, names: &[u8], text: &[u8])
             name: _,
         } => {}
         Becomes::Drop => {}
-        Becomes::Name { usage, frame } => maker.capture(frame, usage as u32),
+        Becomes::Name { usage, frame } => maker.capture(frame, usage),
         Becomes::Call {
             usage,
             frame,
             property,
             called: _,
-        } => maker.note_super(names, text, frame, usage as u32, property as u32),
+        } => maker.note_super(names, frame, usage, property as u32),
     }
 }
 
@@ -88,7 +87,7 @@ fn leave(op: Becomes, context: Context, maker: &mut Maker<'_>)
     ensures made_unchanged { behind maker.old.cap maker.new.made.now ≡ behind maker.old.cap maker.old.made.now }
 {
     if is_called(op) & context.takes_this {
-        maker.capture(context.this_at, Use::This as u32);
+        maker.capture(context.this_at, Capture::This);
     }
 }
 
@@ -111,21 +110,19 @@ fn finish(op: Becomes, context: Context, closing: bool, frame: usize, maker: &mu
 #[cycle(collect_rows)]
 fn collect_row(
     rows: &[u8],
-    names: &[u8],
-    text: &[u8],
+    names: &Names<'_>,
     switches: Switches,
     q: Place,
     i: usize,
     stop: usize,
     maker: &mut Maker<'_>,
 )
-    requires row_collects { RowCollects rows.now maker.old.made.now maker.old.cap maker.old.count (place_of q) i stop (row_c (names_of names.now text.now) (switches_of switches) (place_of q) (words rows.now) i (binds maker.old.made.now maker.old.cap maker.old.count)) }
-    requires given_names { GivenNames names.now text.now }
-    requires filed { Filed names.now text.now (behind maker.old.cap maker.old.made.now) maker.old.cap (binds maker.old.made.now maker.old.cap maker.old.count) }
+    requires row_collects { RowCollects rows.now maker.old.made.now maker.old.cap maker.old.count (place_of q) i stop (row_c (names_of names.now.pairs.now names.now.text.now) (switches_of switches) (place_of q) (words rows.now) i (binds maker.old.made.now maker.old.cap maker.old.count)) }
+    requires filed { Filed names.now.pairs.now names.now.text.now (behind maker.old.cap maker.old.made.now) maker.old.cap (binds maker.old.made.now maker.old.cap maker.old.count) }
     ensures same_reference { maker.new.made.ghost_name ≡ maker.old.made.ghost_name }
     ensures cap_value { maker.new.cap ≡ maker.old.cap }
-    ensures kept { Kept maker.new.made.now maker.old.cap (row_c (names_of names.now text.now) (switches_of switches) (place_of q) (words rows.now) i (binds maker.old.made.now maker.old.cap maker.old.count)) maker.new.count }
-    ensures filed_2 { Filed names.now text.now (behind maker.old.cap maker.new.made.now) maker.old.cap (row_c (names_of names.now text.now) (switches_of switches) (place_of q) (words rows.now) i (binds maker.old.made.now maker.old.cap maker.old.count)) }
+    ensures kept { Kept maker.new.made.now maker.old.cap (row_c (names_of names.now.pairs.now names.now.text.now) (switches_of switches) (place_of q) (words rows.now) i (binds maker.old.made.now maker.old.cap maker.old.count)) maker.new.count }
+    ensures filed_2 { Filed names.now.pairs.now names.now.text.now (behind maker.old.cap maker.new.made.now) maker.old.cap (row_c (names_of names.now.pairs.now names.now.text.now) (switches_of switches) (place_of q) (words rows.now) i (binds maker.old.made.now maker.old.cap maker.old.count)) }
 {
     let from = i + 1;
     let kind = kind_at(rows, i);
@@ -134,16 +131,15 @@ fn collect_row(
             return;
         }
         let along = q.inside();
-        return collect(rows, names, text, switches, along, along, from, stop, maker);
+        return collect(rows, names, switches, along, along, from, stop, maker);
     }
-    let late = is_late(rows, names, text, switches, q, i);
-    let act = act_at(rows, names, text, switches, q, i, late);
+    let node = Node { rows, at: i };
+    let late = is_late(node, names, switches, q);
+    let act = act_at(node, names, switches, q, late);
     let op = act.op;
-    meet(op, maker, names, text);
+    meet(op, maker, names);
     let more = act.more;
-    collect(
-        rows, names, text, switches, act.one, more, from, stop, maker,
-    );
+    collect(rows, names, switches, act.one, more, from, stop, maker);
     let closing = closes(q.slot(), kind);
     let spot = q.spot();
     let frame = more.this_at();
@@ -155,8 +151,7 @@ fn collect_row(
 #[cycle(collect_rows)]
 pub fn collect(
     rows: &[u8],
-    names: &[u8],
-    text: &[u8],
+    names: &Names<'_>,
     switches: Switches,
     one: Place,
     more: Place,
@@ -165,19 +160,20 @@ pub fn collect(
     maker: &mut Maker<'_>,
 )
     requires ranged { Ranged rows.now from end }
-    requires given_names { GivenNames names.now text.now }
-    requires collects { Collects (rows_in rows.now) maker.old.made.now maker.old.cap maker.old.count (place_of one) (place_of more) (collect_c (names_of names.now text.now) (switches_of switches) (place_of one) (place_of more) from (rows_at (words rows.now) from end) (binds maker.old.made.now maker.old.cap maker.old.count)) }
-    requires filed { Filed names.now text.now (behind maker.old.cap maker.old.made.now) maker.old.cap (binds maker.old.made.now maker.old.cap maker.old.count) }
+    requires collects { Collects (rows_in rows.now) maker.old.made.now maker.old.cap maker.old.count (place_of one) (place_of more) (collect_c (names_of names.now.pairs.now names.now.text.now) (switches_of switches) (place_of one) (place_of more) from (rows_at (words rows.now) from end) (binds maker.old.made.now maker.old.cap maker.old.count)) }
+    requires filed { Filed names.now.pairs.now names.now.text.now (behind maker.old.cap maker.old.made.now) maker.old.cap (binds maker.old.made.now maker.old.cap maker.old.count) }
     ensures same_reference { maker.new.made.ghost_name ≡ maker.old.made.ghost_name }
     ensures cap_value { maker.new.cap ≡ maker.old.cap }
-    ensures kept { Kept maker.new.made.now maker.old.cap (collect_c (names_of names.now text.now) (switches_of switches) (place_of one) (place_of more) from (rows_at (words rows.now) from end) (binds maker.old.made.now maker.old.cap maker.old.count)) maker.new.count }
-    ensures filed_2 { Filed names.now text.now (behind maker.old.cap maker.new.made.now) maker.old.cap (collect_c (names_of names.now text.now) (switches_of switches) (place_of one) (place_of more) from (rows_at (words rows.now) from end) (binds maker.old.made.now maker.old.cap maker.old.count)) }
+    ensures kept { Kept maker.new.made.now maker.old.cap (collect_c (names_of names.now.pairs.now names.now.text.now) (switches_of switches) (place_of one) (place_of more) from (rows_at (words rows.now) from end) (binds maker.old.made.now maker.old.cap maker.old.count)) maker.new.count }
+    ensures filed_2 { Filed names.now.pairs.now names.now.text.now (behind maker.old.cap maker.new.made.now) maker.old.cap (collect_c (names_of names.now.pairs.now names.now.text.now) (switches_of switches) (place_of one) (place_of more) from (rows_at (words rows.now) from end) (binds maker.old.made.now maker.old.cap maker.old.count)) }
 {
     let mut i = from;
     let mut q = one;
+    // A loop by hand: each row's end is read for what stands inside it, and so tells where the next one starts; forest's `Children`
+    // would read and test it once more, and be no plainer.
     while i < end {
         let stop = end_at(rows, i);
-        collect_row(rows, names, text, switches, q, i, stop, maker);
+        collect_row(rows, names, switches, q, i, stop, maker);
         q = more;
         i = stop;
     }
@@ -186,18 +182,16 @@ pub fn collect(
 // The bindings of a whole table, made in the lent array. The answer is their number.
 pub fn make_bindings(
     rows: &[u8],
-    names: &[u8],
-    text: &[u8],
+    names: &Names<'_>,
     switches: Switches,
     made: &mut [u32],
     cap: usize,
 ) -> usize
     requires ranged { Ranged rows.now 0 (rows_in rows.now) }
-    requires given_names { GivenNames names.now text.now }
-    requires starts { Starts (rows_in rows.now) made.old cap (made_c (names_of names.now text.now) (switches_of switches) (table rows.now)) }
-    requires filed { Filed names.now text.now (behind cap made.old) cap [] }
-    ensures kept { Kept made.new cap (made_c (names_of names.now text.now) (switches_of switches) (table rows.now)) result }
-    ensures filed_2 { Filed names.now text.now (behind cap made.new) cap (made_c (names_of names.now text.now) (switches_of switches) (table rows.now)) }
+    requires starts { Starts (rows_in rows.now) made.old cap (made_c (names_of names.now.pairs.now names.now.text.now) (switches_of switches) (table rows.now)) }
+    requires filed { Filed names.now.pairs.now names.now.text.now (behind cap made.old) cap [] }
+    ensures kept { Kept made.new cap (made_c (names_of names.now.pairs.now names.now.text.now) (switches_of switches) (table rows.now)) result }
+    ensures filed_2 { Filed names.now.pairs.now names.now.text.now (behind cap made.new) cap (made_c (names_of names.now.pairs.now names.now.text.now) (switches_of switches) (table rows.now)) }
 {
     let start = program();
     let end = rows.len() / 16;
@@ -206,8 +200,6 @@ pub fn make_bindings(
         cap,
         count: 0,
     };
-    collect(
-        rows, names, text, switches, start, start, 0, end, &mut maker,
-    );
+    collect(rows, names, switches, start, start, 0, end, &mut maker);
     maker.count
 }

@@ -3,7 +3,7 @@
 
 #![tactic(auto)]
 
-ghost use Rattle.std.specs.Prelude.{◌≡◌, List, [], ◌+◌, ◌*◌, ◌/◌, ◌≤◌, ◌<◌, ◌^◌, length, take, IfOk};
+ghost use Rattle.std.specs.Prelude.{◌≡◌, [], ◌+◌, ◌*◌, ◌≤◌, ◌<◌, ◌^◌, length, take, IfOk};
 ghost use Rattle.names.specs.Words.{words};
 ghost use Rattle.acts.specs.View.{switches_of};
 ghost use Rattle.decimal.specs.Decimal.{Wrote};
@@ -154,7 +154,7 @@ fn answer_pieces(reader: &mut impl Read, input: &mut [u8], out: &mut [u8]) -> io
             return Ok(answer_long(form, out));
         }
     }
-    Ok(turn_away(12, form.line as u32, out))
+    Ok(turn_away(12, form.line_number() as u32, out))
 }
 
 // The answer to what the reader has left.

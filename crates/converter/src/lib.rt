@@ -14,7 +14,9 @@ use answer::{Converted, Refusal};
 use refusals::refusal;
 use result::result;
 use rows::{check, limits_for};
+use spelling::Names;
 use steps::ArrowFunctionConverter;
+use walks::AcceptedTable;
 
 // Converts a table of either caller: the rows of the result go to the front of `out_rows`, the records
 // of its bindings to the front of `out_bindings`. Every input is answered. A refusal leaves both as they
@@ -38,6 +40,12 @@ pub fn convert(
         switches.async_to_generator,
         switches.async_generator_functions,
     );
-    refusal(rows, names, text, converter)?;
-    result(switches, rows, names, text, out_rows, out_bindings)
+    let names = Names { pairs: names, text };
+    refusal(rows, &names, converter)?;
+    let table = AcceptedTable {
+        switches,
+        rows,
+        names,
+    };
+    result(&table, out_rows, out_bindings)
 }

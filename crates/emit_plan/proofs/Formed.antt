@@ -14,19 +14,7 @@ use Rattle.steps.specs.Acts.{Ctx, Op.row, act, act_of, kind_of}
 use Rattle.steps.specs.Bindings.{closes}
 use Rattle.steps.specs.Fused.{met_of, direct_of, within, own}
 use Rattle.emit_plan.specs.Walkers.{is_statement, is_function, is_row}
-
--- one of two tests, or none
-either : (X : Type 0) (b c : Bool) → (b || c) ≡ true → (b ≡ true → X) → (c ≡ true → X) → X
-either X true c h f g = f refl
-either X false c h f g = g h
-
-neither : (b c : Bool) → (b || c) ≡ false → (b ≡ false) × (c ≡ false)
-neither true c h = absurd (true≢false h)
-neither false c h = (refl, h)
-
-both : (b c : Bool) → (b && c) ≡ true → (b ≡ true) × (c ≡ true)
-both true c h = (refl, h)
-both false c h = absurd (true≢false (sym h))
+use Rattle.names.proofs.Bools.{and_parts, either, neither}
 
 and-false : (b : Bool) → (b && false) ≡ false
 and-false true = refl
@@ -51,14 +39,14 @@ module _ (N : Names) (w : Switches) (l : Bool) (c : Ctx) (sl o a n : ℕ) (i : R
 
   pub met_op : (k sc : ℕ) (sup : Bool) → met_of sc k sup ≡ true → (act N w l c sl o k a n i).op ≡ row k a n
   unfolding act act_of kind_of met_of
-  met_op k sc sup h = at_kind (λ (k : ℕ). (act N w l c sl o k a n i).op ≡ row k a n) k Call refl (both _ _ (both _ _ h).0).0
+  met_op k sc sup h = at_kind (λ (k : ℕ). (act N w l c sl o k a n i).op ≡ row k a n) k Call refl (and_parts _ _ (and_parts _ _ h).0).0
 
   closing_row : (k : ℕ) → closes sl k ≡ true → is_row (act N w l c sl o k a n i).op ≡ true
   unfolding act act_of kind_of closes is_row
   closing_row k h =
       either (is_row (act N w l c sl o k a n i).op ≡ true) _ _ h
       (λ h. either (is_row (act N w l c sl o k a n i).op ≡ true) _ _ h (at_kind (λ (k : ℕ). is_row (act N w l c sl o k a n i).op ≡ true) k Program refl) (at_kind (λ (k : ℕ). is_row (act N w l c sl o k a n i).op ≡ true) k StaticBlock refl))
-      (λ h. at_kind (λ (k : ℕ). is_row (act N w l c sl o k a n i).op ≡ true) k Body refl (both _ _ h).0)
+      (λ h. at_kind (λ (k : ℕ). is_row (act N w l c sl o k a n i).op ≡ true) k Body refl (and_parts _ _ h).0)
 
   pub rowless_open : (k : ℕ) → is_row (act N w l c sl o k a n i).op ≡ false → closes sl k ≡ false
   rowless_open k h = go (closes sl k) refl
@@ -77,7 +65,7 @@ statement_open k sl h = statements (λ (k : ℕ). closes sl k ≡ false) k h ref
 
 pub met_open : (k sl sc : ℕ) (sup : Bool) → met_of sc k sup ≡ true → closes sl k ≡ false
 unfolding met_of closes
-met_open k sl sc sup h = at_kind (λ (k : ℕ). closes sl k ≡ false) k Call refl (both _ _ (both _ _ h).0).0
+met_open k sl sc sup h = at_kind (λ (k : ℕ). closes sl k ≡ false) k Call refl (and_parts _ _ (and_parts _ _ h).0).0
 
 pub other-first : (k sc : ℕ) (called : Bool) → is_statement k ≡ false → direct_of sc k called ≡ false
 unfolding direct_of

@@ -24,7 +24,6 @@ use Rattle.bindings.specs.Store.{this_at}
 use Rattle.bindings.proofs.Arrays.{binds-length}
 use Rattle.bindings.proofs.Numbered.{this_number}
 use Rattle.passes.specs.declared.Pass.{Pass as Passed}
-use Rattle.plan.specs.declared.Act.{Act as Acted}
 use Rattle.plan.specs.declared.place.Place.{Place}
 use Rattle.passes.specs.declared.slots.Slot.{Slot}
 use Rattle.passes.specs.View.{slot_number, op_of, Says}
@@ -39,6 +38,7 @@ use Rattle.emit_plan.specs.declared.Plan.{Plan}
 use Rattle.emit_plan.specs.Walkers.{is_statement, is_row}
 use Rattle.emit_plan.specs.Plans.{list_of, Holds, Formed, RowPre, Planned, act_in, frame_in}
 use Rattle.emit_plan.proofs.Formed.{statement_op, met_op, rowless_open, statement_met, statement_open, met_open, other-first, dressed_first}
+use Rattle.acts.specs.declared.act.Act.{Act as Acted}
 
 module _ (rows names text : List ℕ) (v : Walk) (b sc : ℕ) (q : Spot) (i : ℕ) (p : Plan) where
   abbrev ws : List ℕ
@@ -128,7 +128,7 @@ module _ (rows names text : List ℕ) (v : Walk) (b sc : ℕ) (q : Spot) (i : �
         }
 
 -- the plan, by the values that the code has
-module _ (rows names text : List ℕ) (v : Walk) (b sc : ℕ) (q : Place) (i : ℕ) (sl : Slot) (k a n e m : ℕ) (sup called : Bool) (A : Acted) (s : Passed) where
+module _ (rows names text : List ℕ) (v : Walk) (b sc : ℕ) (q : Place) (i : ℕ) (sl : Slot) (k a n e m : ℕ) (sup called : Bool) (A : Acted Place) (s : Passed) where
   abbrev it : Plan
   it = record {
     inner = record { from = i + 1; end = e; bind = s.bind; state = s.scan; one = A.one; more = A.more };

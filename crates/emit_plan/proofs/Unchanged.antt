@@ -34,17 +34,14 @@ use Rattle.emit_plan.specs.declared.Walk.{Walk}
 use Rattle.emit_plan.specs.declared.Siblings.{Siblings}
 use Rattle.emit_plan.specs.declared.Plan.{Plan}
 use Rattle.emit_plan.specs.Plans.{inside, dressed, Holds, InnerPre, Planned}
-use Rattle.emit_plan.proofs.Written.{flipped}
 use Rattle.emit_plan.specs.Unchanged.{Steady, Unchanged, WordsOf, Along}
+use Rattle.names.proofs.Bools.{and_parts, neither}
+use borrow.Author.Tests.{not-true}
 
 -- where nothing is visited
 pub steady-copy : (k : ℕ) → Steady 2 k
 unfolding met_of direct_of scan_of next_of
 steady-copy k = record { met = λ s. and-false (eqb k 14 && s); scan = λ a n. refl; next = refl }
-
-neither : (x y : Bool) → (x || y) ≡ false → (x ≡ false) × (y ≡ false)
-neither true y e = absurd (true≢false e)
-neither false y e = (refl, e)
 
 -- where rows are visited, and in a statement list, a row that does not change how
 module _ (k : ℕ) (e : (eqb k 23 || eqb k 14 || eqb k 5 || eqb k 19 || eqb k 17 || eqb k 20) ≡ false) where
@@ -71,43 +68,18 @@ module _ (k : ℕ) (e : (eqb k 23 || eqb k 14 || eqb k 5 || eqb k 19 || eqb k 17
   unfolding met_of scan_of next_of
   steady-list = record { met = λ s. rw one.1; scan = λ x n. rw (two.1, three.1, four.1, one.0, five.1); next = refl }
 
-both : (x y : Bool) → (x && y) ≡ true → (x ≡ true) × (y ≡ true)
-both true y e = (refl, e)
-both false y e = absurd (true≢false (sym e))
-
 pub steady_of : (sc k : ℕ) → ((eqb sc 1 || eqb sc 0) && not (eqb k 23 || eqb k 14 || eqb k 5 || eqb k 19 || eqb k 17 || eqb k 20)) ≡ true → Steady sc k
 steady_of sc k h = go (eqb sc 1) refl p.0
   where
     p : ((eqb sc 1 || eqb sc 0) ≡ true) × (not (eqb k 23 || eqb k 14 || eqb k 5 || eqb k 19 || eqb k 17 || eqb k 20) ≡ true)
-    p = both (eqb sc 1 || eqb sc 0) (not (eqb k 23 || eqb k 14 || eqb k 5 || eqb k 19 || eqb k 17 || eqb k 20)) h
+    p = and_parts (eqb sc 1 || eqb sc 0) (not (eqb k 23 || eqb k 14 || eqb k 5 || eqb k 19 || eqb k 17 || eqb k 20)) h
 
     else : (eqb k 23 || eqb k 14 || eqb k 5 || eqb k 19 || eqb k 17 || eqb k 20) ≡ false
-    else = flipped _ p.1
+    else = not-true _ p.1
 
     go : (x : Bool) → eqb sc 1 ≡ x → (x || eqb sc 0) ≡ true → Steady sc k
     go true e g = subst (λ (s : ℕ). Steady s k) (sym (eqb-eq sc 1 e)) (steady-visit k else)
     go false e g = subst (λ (s : ℕ). Steady s k) (sym (eqb-eq sc 0 g)) (steady-list k else)
-
--- a direct `super(..)`, by the tests that the code makes
-pub direct_yes : (sc k : ℕ) (c : Bool) → (eqb k 1 && eqb sc 0) ≡ true → c ≡ direct_of sc k c
-unfolding direct_of
-direct_yes sc k c h = go c
-  where
-    p : (eqb k 1 ≡ true) × (eqb sc 0 ≡ true)
-    p = both (eqb k 1) (eqb sc 0) h
-
-    go : (c : Bool) → c ≡ (eqb k 1 && c && eqb sc 0)
-    go true = rw (p.0, p.1) refl
-    go false = rw p.0 refl
-
-pub direct_no : (sc k : ℕ) (c : Bool) → (eqb k 1 && eqb sc 0) ≡ false → false ≡ direct_of sc k c
-unfolding direct_of
-direct_no sc k c h = go (eqb k 1) c h
-  where
-    go : (x c : Bool) → (x && eqb sc 0) ≡ false → false ≡ (x && c && eqb sc 0)
-    go true true g = sym g
-    go true false g = refl
-    go false c g = refl
 
 pub unchanged_at : {w : Switches} {q : Spot} {sc : ℕ} {ws : List ℕ} {i k a : ℕ} → k ≡ kind_at ws i → a ≡ attr_at ws i → Steady sc k → direct_of sc k (super_call (children ws i)) ≡ false → Stays w q k a → Unchanged w q sc ws i
 unchanged_at {w} {q} {sc} {ws} {i} {k} {a} ek ea S D T = record {

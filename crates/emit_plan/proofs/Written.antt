@@ -6,7 +6,7 @@ use mathlib.Core.Logic.{◌⊎◌, inl, inr}
 use Prim.Native.Nat.{ℕ, ◌+◌, ◌<◌, ◌≤◌}
 use native.Mathlib.Omega.{arith}
 use lib.Dec.{eqb}
-use borrow.Author.Tests.{eqb-true, eqb-false}
+use borrow.Author.Tests.{eqb-true, eqb-false, not-false, not-true}
 use Rattle.grammar.specs.Kinds.{Program, ExprStmt, This, Ident, Member, Call, Sequence}
 use Rattle.forest.specs.Forest.{Rows, Rows.none, Rows.node, size}
 use Rattle.steps.specs.Naming.{Names}
@@ -27,7 +27,7 @@ use Rattle.insertion.specs.Declarations.{frame_decls}
 use Rattle.insertion.proofs.Tops.{frame-decls}
 use Rattle.passes.specs.View.{slot_number, op_of}
 use Rattle.output.specs.Output.{Done}
-use Rattle.output.proofs.Writing.{size-one, size-leaf, size-join}
+use Rattle.output.proofs.Writing.{size-one, size-leaf}
 use Rattle.inserted.proofs.Shapes.{size-assignment}
 use Rattle.plan.specs.Placing.{place_of}
 use Rattle.emit_plan.specs.declared.Walk.{Walk}
@@ -38,6 +38,7 @@ use Rattle.emit_plan.specs.Idents.{this_row}
 use Rattle.emit_plan.specs.Top.{top_rows}
 use Rattle.emit_plan.specs.Plans.{list_of, inside, topped, built, dressed, Formed}
 use Rattle.emit_plan.proofs.Formed.{function_open}
+use Rattle.steps.proofs.Sizes.{size-join}
 
 pub join-none : (f : Rows) → join f none ≡ f
 unfolding join
@@ -60,14 +61,6 @@ this_size : (M : List ℕ) (cap : ℕ) (y : Bool) (f : ℕ) → size (this_row M
 unfolding this_row size
 this_size M cap true f = refl
 this_size M cap false f = refl
-
-pub unnot : (y : Bool) → not y ≡ false → y ≡ true
-unnot true h = refl
-unnot false h = absurd (true≢false h)
-
-pub flipped : (y : Bool) → not y ≡ true → y ≡ false
-flipped true h = absurd (true≢false (sym h))
-flipped false h = refl
 
 nothing-first : (t : Rows) → join none t ≡ t
 unfolding join
@@ -213,12 +206,12 @@ module _ (rows names text : List ℕ) (v : Walk) (p : Plan) where
 
     -- which walker a row of a list goes to
     pub expression-first : {b : Bool} → b ≡ eqb (slot_number p.slot) wrapped → (r : Bool) → r ≡ is_statement p.words.kind → (r && not b) ≡ false → p.first ≡ false
-    expression-first {b} t true e h = F.dressing (sym t ∙ unnot b h)
+    expression-first {b} t true e h = F.dressing (sym t ∙ not-false b h)
     expression-first t false e h = F.other (sym e)
 
 -- a statement that is no wrapped body
 pub statement_test : (k s : ℕ) {b : Bool} → b ≡ eqb s wrapped → (r : Bool) → r ≡ is_statement k → (r && not b) ≡ true → (is_statement k ≡ true) × (eqb s wrapped ≡ false)
-statement_test k s {b} t true e h = (sym e, sym t ∙ flipped b h)
+statement_test k s {b} t true e h = (sym e, sym t ∙ not-true b h)
 statement_test k s t false e h = absurd (true≢false (sym h))
 
 -- the row after one with nothing inside

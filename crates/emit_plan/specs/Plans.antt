@@ -19,7 +19,8 @@ use Rattle.passes.specs.View.{slot_number, state_number, op_of, Says}
 use Rattle.below.specs.Below.{children}
 use Rattle.passes.specs.declared.Pass.{Pass}
 use Rattle.acts.specs.View.{switches_of}
-use Rattle.plan.specs.declared.Act.{Act}
+use Rattle.acts.specs.declared.act.Act.{Act}
+use Rattle.plan.specs.declared.place.Place.{Place}
 use Rattle.plan.specs.Placing.{place_of}
 use Rattle.plan.specs.Taking.{Takes}
 use Rattle.plan.specs.Ranged.{Ranged}
@@ -98,7 +99,7 @@ pub record RowPre (rows names text : List ℕ) (v : Walk) (p : Plan) : Type 0 wh
   pub formed : Formed p
 
 -- the parts of a plan that were decided: its act, and what module 7 says
-abbrev pub act_in : Plan → Act
+abbrev pub act_in : Plan → Act Place
 act_in p = record { op = p.op; one = p.inner.one; more = p.inner.more }
 
 abbrev pub pass_in : Plan → Pass
@@ -120,3 +121,37 @@ pub record Planned (N : Names) (ws : List ℕ) (v : Walk) (b sc : ℕ) (q : Spot
   pub name : p.words.name ≡ name_at ws i
   pub does : Takes (switches_of v.switches) q.ctx (act_c N (switches_of v.switches) q i (kind_at ws i) (attr_at ws i) (name_at ws i) (children ws i)) (act_in p)
   pub says : Says (pass_in p) (pass_of b sc q.slot (kind_at ws i) (number N (list_of v) 1 (frame_in p) 0) (first_super (children ws i)) (super_call (children ws i)) (op_of p.op))
+
+-- The same of the table that the walk has.
+module _ (v : Walk) where
+  -- what the whole table becomes, what a row's children become, the same with a frame's Var, and what a row becomes
+  abbrev pub emitted_of : Rows
+  emitted_of = emitted v.rows.now v.names.pairs.now v.names.text.now v
+
+  abbrev pub inside_of : Siblings → Rows
+  inside_of = inside v.rows.now v.names.pairs.now v.names.text.now v
+
+  abbrev pub topped_of : (sl k : ℕ) → Siblings → Rows
+  topped_of = topped v.rows.now v.names.pairs.now v.names.text.now v
+
+  abbrev pub built_of : Plan → Rows → Rows
+  built_of = built v.rows.now v.names.pairs.now v.names.text.now v
+
+  abbrev pub dressed_of : Plan → Rows
+  dressed_of = dressed v.rows.now v.names.pairs.now v.names.text.now v
+
+  -- the number of an accessor of that use, frame and property
+  abbrev pub accessor_of : (u f x : ℕ) → ℕ
+  accessor_of = number (names_of v.names.pairs.now v.names.text.now) (list_of v)
+
+  abbrev pub HoldsOf : Type 0
+  HoldsOf = Holds v.names.pairs.now v.names.text.now v (rows_in v.rows.now)
+
+  abbrev pub InnerPreOf : Siblings → Type 0
+  InnerPreOf = InnerPre v.rows.now v.names.pairs.now v.names.text.now v
+
+  abbrev pub RowPreOf : Plan → Type 0
+  RowPreOf = RowPre v.rows.now v.names.pairs.now v.names.text.now v
+
+  abbrev pub PlannedOf : (b sc : ℕ) (q : Spot) (i : ℕ) → Plan → Type 0
+  PlannedOf = Planned (names_of v.names.pairs.now v.names.text.now) (words v.rows.now) v

@@ -3,32 +3,31 @@ ghost use Rattle.std.specs.Prelude.{◌≡◌, true, cond, ◌+◌, ◌<◌, ◌
 ghost use Rattle.output.specs.Output.{set_end};
 ghost use Rattle.emit_plan.specs.Dressing.{opened};
 
-use grammar::kinds;
-use output::{append, patch_end};
+use grammar::kind::Kind;
+use output::writer::Writer;
 
-const BODY: u32 = kinds::BODY as u32;
-
-const RETURN: u32 = kinds::RETURN as u32;
-
-// Writes Body and Return from row `at` on. The answer is the next row's number.
-pub fn open_body(out: &mut [u8], at: usize, wanted: bool) -> usize
-    requires { wanted ≡ true → at + 2 < 2 ^ 32 }
-    ensures { (result ≡ cond wanted (at + 2) at) × (out.new ≡ opened wanted out.old at) }
+// Writes Body and Return.
+pub fn open_body(w: &mut Writer<'_>, wanted: bool)
+    requires { wanted ≡ true → w.old.at + 2 < 2 ^ 32 }
+    ensures same_reference { w.new.rows.ghost_name ≡ w.old.rows.ghost_name }
+    ensures next { w.new.at ≡ cond wanted (w.old.at + 2) w.old.at }
+    ensures rows { w.new.rows.now ≡ opened wanted w.old.rows.now w.old.at }
 {
     if wanted {
-        let body = append(out, at, BODY, 0, 0, 0);
-        return append(out, body, RETURN, 0, 0, 0);
+        w.append(Kind::Body as u32, 0, 0, 0);
+        w.append(Kind::Return as u32, 0, 0, 0);
     }
-    at
 }
 
-// Ends both before row `end`.
-pub fn close_body(out: &mut [u8], at: usize, wanted: bool, end: u32)
-    requires { wanted ≡ true → at + 2 < 2 ^ 32 }
-    ensures { out.new ≡ cond wanted (set_end (set_end out.old (at + 1) end) at end) out.old }
+// Ends both, the Body at row `row`, before the next row.
+pub fn close_body(w: &mut Writer<'_>, row: usize, wanted: bool)
+    requires { wanted ≡ true → (row + 2 < 2 ^ 32) × (w.old.at < 2 ^ 32) }
+    ensures same_reference { w.new.rows.ghost_name ≡ w.old.rows.ghost_name }
+    ensures next { w.new.at ≡ w.old.at }
+    ensures rows { w.new.rows.now ≡ cond wanted (set_end (set_end w.old.rows.now (row + 1) w.old.at) row w.old.at) w.old.rows.now }
 {
     if wanted {
-        patch_end(out, at + 1, end);
-        patch_end(out, at, end);
+        w.close(row + 1);
+        w.close(row);
     }
 }

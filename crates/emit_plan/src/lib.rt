@@ -15,12 +15,15 @@ use passes::Becomes;
 use passes::slots::Slot;
 use passes::states::State;
 use plan::place::Place;
+use spelling::Names;
 
-// What stays the same on the whole walk: the switches, and the bindings.
+// What stays the same on the whole walk: the switches, the rows and names of the table, and the bindings.
 #[derive(Clone, Copy)]
-pub struct Walk<'a> {
+pub struct Walk<'a, 'b> {
     pub switches: Switches,
-    pub bindings: Bindings<'a>,
+    pub rows: &'a [u8],
+    pub names: Names<'a>,
+    pub bindings: Bindings<'b>,
 }
 
 // A list of siblings, from row `from` to row `end`, and how it is walked: the binding that module 7

@@ -1,8 +1,7 @@
 // The plan of a row: decided before it is written, outside of the walkers.
-ghost use Rattle.std.specs.Prelude.{◌≡◌, true, ℕ, ◌+◌, ◌*◌, ◌≤◌, ◌<◌, length};
+ghost use Rattle.std.specs.Prelude.{◌≡◌, true, ◌||◌, eqb, ℕ, ◌+◌, ◌*◌, ◌≤◌, ◌<◌, length};
+ghost use Rattle.grammar.specs.Kinds.{Block, Body, Call, Class, Function, StaticBlock};
 ghost use Rattle.names.specs.Words.{words, rows_in};
-ghost use Rattle.spelling.specs.Spelling.{GivenNames};
-ghost use Rattle.steps.specs.Outcome.{names_of};
 ghost use Rattle.steps.specs.AfterSuper.{super_call};
 ghost use Rattle.steps.specs.Fused.{direct_of};
 ghost use Rattle.passes.specs.View.{state_number};
@@ -11,17 +10,15 @@ ghost use Rattle.acts.specs.View.{switches_of};
 ghost use Rattle.plan.specs.Placing.{place_of};
 ghost use Rattle.plan.specs.Frames.{FramesBelow};
 ghost use Rattle.emit_plan.specs.Walkers.{is_statement, is_function, is_class};
-ghost use Rattle.emit_plan.specs.Plans.{Holds, Planned, RowPre};
+ghost use Rattle.emit_plan.specs.Plans.{HoldsOf, PlannedOf, RowPreOf};
 ghost use Rattle.emit_plan.specs.Unchanged.{Steady, inside_state, Unchanged, WordsOf, Along};
 
 use crate::{Plan, Siblings, Walk};
 use acts::act::Words;
 use acts::switches::Switches;
-use below::{attr_at, end_at, kind_at, look, name_at, super_call};
-use grammar::kinds::{
-    ARROW, BLOCK, BODY, CALL, CLASS, DECLARATOR, EXPR_STMT, FIELD, FUNCTION, METHOD, OTHER, PARAMS,
-    PROGRAM, RETURN, STATIC_BLOCK, VAR,
-};
+use below::{Node, attr_at, end_at, kind_at, name_at};
+use bindings::frame::Frame;
+use grammar::kind::Kind;
 use passes::pass_of;
 use passes::states::State;
 use plan::act_at;
@@ -33,61 +30,53 @@ use plan::stays::stays;
 pub fn is_statement(kind: usize) -> bool
     ensures { result ≡ is_statement kind }
 {
-    (kind == EXPR_STMT)
-        | (kind == VAR)
-        | (kind == DECLARATOR)
-        | (kind == RETURN)
-        | (kind == BLOCK)
-        | (kind == OTHER)
+    matches!(
+        Kind::from(kind),
+        Kind::ExprStmt | Kind::Var | Kind::Declarator | Kind::Return | Kind::Block | Kind::Other
+    )
 }
 
 // The rows that a Function or an Arrow is made of, and the others that close a frame.
 pub fn is_function(kind: usize) -> bool
     ensures { result ≡ is_function kind }
 {
-    (kind == PROGRAM)
-        | (kind == ARROW)
-        | (kind == FUNCTION)
-        | (kind == PARAMS)
-        | (kind == BODY)
-        | (kind == STATIC_BLOCK)
+    matches!(
+        Kind::from(kind),
+        Kind::Program | Kind::Arrow | Kind::Function | Kind::Params | Kind::Body | Kind::StaticBlock
+    )
 }
 
 // A Class and its members.
 pub fn is_class(kind: usize) -> bool
     ensures { result ≡ is_class kind }
 {
-    (kind == CLASS) | (kind == METHOD) | (kind == FIELD)
+    matches!(Kind::from(kind), Kind::Class | Kind::Method | Kind::Field)
 }
 
-// The plan of row i, which stands at `q` in a list of that state.
-pub fn plan_at(
-    rows: &[u8],
-    names: &[u8],
-    text: &[u8],
-    walk: Walk<'_>,
-    bind: usize,
-    state: State,
-    q: Place,
-    i: usize,
-) -> Plan
-    requires at { At rows.now (rows_in rows.now) i }
-    requires given_names { GivenNames names.now text.now }
-    requires holds { Holds names.now text.now walk (rows_in rows.now) }
-    requires frames_below { FramesBelow walk.bindings.cap (place_of q).ctx × (bind ≤ 16384) }
-    ensures planned { Planned (names_of names.now text.now) (words rows.now) walk.entry bind (state_number state) (place_of q) i result }
-    ensures row_pre { RowPre rows.now names.now text.now walk.entry result }
+// The plan of row i, which stands at `q` in a list of that state. By its number, no Node: the rows are the walk's, and a Node would
+// hold them a second time.
+pub fn plan_at(walk: &Walk<'_, '_>, bind: usize, state: State, q: Place, i: usize) -> Plan
+    requires at { At walk.now.rows.now (rows_in walk.now.rows.now) i }
+    requires holds { HoldsOf walk.now }
+    requires frames_below { FramesBelow walk.now.bindings.cap (place_of q).ctx × (bind ≤ 16384) }
+    ensures planned { PlannedOf walk.now bind (state_number state) (place_of q) i result }
+    ensures row_pre { RowPreOf walk.now result }
 {
-    let late = is_late(rows, names, text, walk.switches, q, i);
-    let act = act_at(rows, names, text, walk.switches, q, i, late);
+    let rows = walk.rows;
+    let node = Node { rows, at: i };
+    let late = is_late(node, &walk.names, walk.switches, q);
+    let act = act_at(node, &walk.names, walk.switches, q, late);
     let words = words_at(rows, i);
     let end = end_at(rows, i);
-    let below = look(rows, i);
+    let below = node.look();
     let op = act.op;
     let one = act.one;
     let more = act.more;
-    let frame = more.this_at();
-    let m = walk.bindings.this_of(frame) as usize;
+    let opened = Frame {
+        bindings: walk.bindings,
+        row: more.this_at(),
+    };
+    let m = opened.this_of() as usize;
     let slot = q.slot();
     let pass = pass_of(
         bind,
@@ -119,6 +108,17 @@ pub fn plan_at(
     }
 }
 
+// Whether module 7 says something of rows of that kind where rows are visited: a Call may be that of a called Super, and
+// inside of the others the state is another one.
+fn changes_state(kind: usize) -> bool
+    ensures { result ≡ (eqb kind StaticBlock || eqb kind Call || eqb kind Block || eqb kind Body || eqb kind Function || eqb kind Class) }
+{
+    matches!(
+        Kind::from(kind),
+        Kind::StaticBlock | Kind::Call | Kind::Block | Kind::Body | Kind::Function | Kind::Class
+    )
+}
+
 // Whether module 7 leaves a row of that kind alone in a list of that state, but for a direct `super(..)`: the rows after
 // it are in the same state, and its children in that of `inside_state`.
 fn is_steady(state: State, kind: usize) -> bool
@@ -127,13 +127,7 @@ fn is_steady(state: State, kind: usize) -> bool
     if state == State::Copy {
         return true;
     }
-    let turns = (kind == STATIC_BLOCK)
-        | (kind == CALL)
-        | (kind == BLOCK)
-        | (kind == BODY)
-        | (kind == FUNCTION)
-        | (kind == CLASS);
-    ((state == State::Visit) | (state == State::List)) & !turns
+    ((state == State::Visit) | (state == State::List)) & !changes_state(kind)
 }
 
 // The state inside such a row: a statement list's rows are visited.
@@ -146,33 +140,32 @@ fn inside_state(state: State) -> State
     }
 }
 
-// Whether row i is a direct `super(..)` statement of a list in which none was met yet.
-fn is_direct(rows: &[u8], state: State, kind: usize, i: usize) -> bool
-    requires { At rows.now (rows_in rows.now) i }
-    ensures { result ≡ direct_of (state_number state) kind (super_call (children (words rows.now) i)) }
+// Whether a row is a direct `super(..)` statement of a list in which none was met yet.
+#[tactic(auto, unfolding(steps::specs::Fused::direct_of))]
+fn is_direct(node: Node<'_>, state: State, kind: usize) -> bool
+    ensures { result ≡ direct_of (state_number state) kind (super_call (children (words node.entry.rows.now) node.entry.at)) }
 {
-    if (kind == EXPR_STMT) & (state == State::List) {
-        return super_call(rows, i);
+    match Kind::from(kind) {
+        Kind::ExprStmt if state == State::List => node.super_call(),
+        _ => false,
     }
-    false
 }
 
-// Whether row i is known to stay as it is, with its children in its place and the state inside it.
-pub fn stays_at(rows: &[u8], switches: Switches, state: State, q: Place, i: usize) -> bool
-    requires { At rows.now (rows_in rows.now) i }
-    ensures { result ≡ true → Unchanged (switches_of switches) (place_of q) (state_number state) (words rows.now) i }
+// Whether a row is known to stay as it is, with its children in its place and the state inside it.
+pub fn stays_at(node: Node<'_>, switches: Switches, state: State, q: Place) -> bool
+    ensures { result ≡ true → Unchanged (switches_of switches) (place_of q) (state_number state) (words node.entry.rows.now) node.entry.at }
 {
-    let kind = kind_at(rows, i);
+    let kind = kind_at(node.rows, node.at);
     if !is_steady(state, kind) {
         return false;
     }
-    if is_direct(rows, state, kind, i) {
+    if is_direct(node, state, kind) {
         return false;
     }
-    stays(switches, q, kind, attr_at(rows, i))
+    stays(switches, q, kind, attr_at(node.rows, node.at))
 }
 
-// The words of row i.
+// The words of row i, of which less is asked than a Node knows.
 pub fn words_at(rows: &[u8], i: usize) -> Words
     requires { 16 * i + 15 < length rows.now }
     ensures { WordsOf (words rows.now) i result }
@@ -184,15 +177,14 @@ pub fn words_at(rows: &[u8], i: usize) -> Words
     }
 }
 
-// The children of row i, where they stand in its place and the state inside it.
-pub fn along(rows: &[u8], bind: usize, state: State, q: Place, i: usize) -> Siblings
-    requires { At rows.now (rows_in rows.now) i }
-    ensures { Along (words rows.now) bind (state_number state) (place_of q) i result }
+// The children of a row, where they stand in its place and the state inside it.
+pub fn along(node: Node<'_>, bind: usize, state: State, q: Place) -> Siblings
+    ensures { Along (words node.entry.rows.now) bind (state_number state) (place_of q) node.entry.at result }
 {
     let inside = q.inside();
     Siblings {
-        from: i + 1,
-        end: end_at(rows, i),
+        from: node.at + 1,
+        end: end_at(node.rows, node.at),
         bind,
         state: inside_state(state),
         one: inside,

@@ -6,9 +6,9 @@ ghost use Rattle.std.specs.Prelude.{◌≡◌, [], length, MatchOption};
 ghost use Rattle.fields.specs.Headers.{switch_header, name_header, row_header};
 ghost use Rattle.fields.specs.Fields.{up_to, fields, number, row_of, same_bytes, Parted, Lined, bit_of, three_bits};
 
-const NEWLINE: u8 = 10;
+pub const NEWLINE: u8 = 10;
 
-const SPACE: u8 = 32;
+pub const SPACE: u8 = 32;
 
 const ZERO: u8 = 48;
 

@@ -10,9 +10,10 @@ use borrow.Author.Tests.{lt-ltb, ltb-true, eqb-true, eqb-false, ne_eqb, eq-eqb}
 use lib.Dec.{eqb, ltb, leb, eqb-suc-zero}
 use lib.ListN.{get_or, length, set, length-set, replicate, length-replicate}
 use lib.Seq.{get_or-set_same, get_or-set_other}
-use Rattle.names.specs.Words.{end_at}
+use Rattle.names.specs.Words.{words, end_at}
 use Rattle.names.proofs.Zeros.{zeros}
 use Rattle.forest.specs.Faults.{end_good, kids, kids_of}
+use Rattle.forest.specs.Children.{ChildAt, NoChild}
 use Rattle.forest.specs.Told.{told_in, told_by, Fresh, first_then, to_all}
 use Rattle.forest.proofs.Children.{good-past, kids-good, kids-bad, kids_done}
 
@@ -125,6 +126,32 @@ module _ (ws : List ℕ) (say : ℕ → ℕ → ℕ) (e : ℕ) where
         many = sym (t.many ∙ ap (λ (l : List ℕ). pos + length l) ks ∙ add-zero pos);
         each = λ j. sym (t.rest j ∙ ap (λ (l : List ℕ). told_in say pos l j (get_or R j 0)) ks);
       }
+
+-- A step of the walk by what `Children` gives, whose rows and end are those of the walk.
+pub good-same : (ws : List ℕ) (e c b : ℕ) (rows s : List ℕ) → ws ≡ words s → rows ≡ s → b ≡ e → end_good (words rows) c b ≡ end_good ws c e
+good-same ws e c b rows s w q f = ap (λ (x : List ℕ). end_good x c b) (ap words q ∙ sym w) ∙ ap (end_good ws c) f
+
+-- the child that stands next is told r
+pub tell-child : (ws : List ℕ) (say : ℕ → ℕ → ℕ) (e size c0 : ℕ) (R₀ R : List ℕ) {c c' pos r b row : ℕ} {rows s : List ℕ}
+    → Telling ws say e size c0 R₀ R c pos → e ≤ size → ws ≡ words s → rows ≡ s → b ≡ e → ChildAt (words rows) b c row c' → say pos c ≡ r
+    → Telling ws say e size c0 R₀ (set R row r) c' (pos + 1)
+tell-child ws say e size c0 R₀ R {c} {c'} {pos} {r} {b} {row} {rows} {s} t l w q f x d =
+    let past : c' ≡ end_at ws c = x.behind ∙ ap (λ (m : List ℕ). end_at m c) (ap words q ∙ sym w) in
+    let good : end_good ws c e ≡ true = sym (good-same ws e c b rows s w q f) ∙ x.ends in
+    rw (x.row_is) (tell-next ws say e size c0 R₀ R c pos t (omega (arith, x.below)) l r d c' past (subst (λ (y : ℕ). (ltb c y && leb y e) ≡ true) (sym past) good))
+
+-- or one whose `end` is at fault, which is the last
+pub tell-fault : (ws : List ℕ) (say : ℕ → ℕ → ℕ) (e size c0 : ℕ) (R₀ R : List ℕ) {c c' pos r b : ℕ} {rows s : List ℕ}
+    → Telling ws say e size c0 R₀ R c pos → e ≤ size → ws ≡ words s → rows ≡ s → b ≡ e → NoChild (words rows) b c c' → c' < e → say pos c ≡ r
+    → Told ws say e size c0 R₀ (set R c' r) (pos + 1)
+tell-fault ws say e size c0 R₀ R {c} {c'} {pos} {r} {b} {rows} {s} t l w q f x h d =
+    let low : c < e = omega (arith, x.stays) in
+    let bad : end_good ws c e ≡ false = sym (good-same ws e c b rows s w q f) ∙ x.faulty (omega arith) in
+    rw (x.stays) (tell-last ws say e size c0 R₀ R c pos t low l r d (end_at ws c) refl bad)
+
+-- behind a child, the next stands further on
+pub goes-on : (ws : List ℕ) (b c row c' : ℕ) → ChildAt ws b c row c' → c < c'
+goes-on ws b c row c' x = let past = good-past ws c b x.ends in omega (arith, x.behind)
 
 -- a later child's value
 pub then-more : (one more pos c : ℕ) → first_then one more (pos + 1) c ≡ more

@@ -3,3 +3,4 @@ pub mod Faults
 pub mod Nested
 pub mod Told
 pub mod Bad
+pub mod Children

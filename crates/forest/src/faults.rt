@@ -1,12 +1,13 @@
 // The first row that breaks the grammar, with its lowest fault, for the refusals 21 to 25. The rows are
 // visited in order with an array of marks, one a row: its place, and 16 more where its end is at fault.
-// Each row marks its children, which it finds by hopping over their ends.
+// Each row marks its children.
 ghost use Rattle.std.specs.Prelude.{◌≡◌, ℕ, ◌*◌, ◌<◌, ◌≤◌, length, get_or, None};
 ghost use Rattle.names.specs.Words.{words};
 ghost use Rattle.grammar.specs.Codes.{kind_number, place_number};
 ghost use Rattle.forest.specs.Faults.{kids, early_fault, late_fault, first_fault};
 ghost use Rattle.forest.specs.Told.{told_in, Fresh, says, top_mark, lowest_fault};
 
+use crate::child::Children;
 use crate::{BadRow, Fault};
 use grammar::kind::Kind;
 use grammar::place::Place;
@@ -28,21 +29,23 @@ fn mark_children(s: &[u8], marks: &mut [u8], kind: Kind, a: usize, c0: usize, e:
     }
     let later = place_of(kind, a, 1).number();
     let mut place = place_of(kind, a, 0).number();
-    let mut c = c0;
-    let mut pos: usize = 0;
-    while c < e {
-        let x = cell(s, 4 * c + 3);
-        if (c < x) & (x <= e) {
-            marks[c] = place;
-            place = later;
-            pos += 1;
-            c = x;
-        } else {
-            marks[c] = place + END_AT_FAULT;
-            return pos + 1;
-        }
+    let mut children = Children {
+        rows: s,
+        next: c0,
+        end: e,
+    };
+    let mut count: usize = 0;
+    while let Some(row) = children.next() {
+        marks[row] = place;
+        place = later;
+        count += 1;
     }
-    pos
+    // One whose end is at fault is the last.
+    if children.next < e {
+        marks[children.next] = place + END_AT_FAULT;
+        return count + 1;
+    }
+    count
 }
 
 // The first three faults.
@@ -129,7 +132,8 @@ fn fault_of<const N: usize>(s: &[u8], n: usize, names: usize) -> Option<BadRow>
     lowest_fault(s, n, names, &mut marks)
 }
 
-// The first bad row, with an array that is as large as the table needs.
+// The first bad row, with an array that is as large as the table needs. The sizes are those of `depth::first_deep`: one function
+// for both would take what is done as a trait with a const method, and be no plainer.
 #[tactic(auto, using(crate::proofs::Descent::by_lowest))]
 pub fn first_fault(s: &[u8], n: usize, names: usize) -> Option<BadRow>
     requires { (0 < n) × ((n ≤ 16384) × (16 * n ≤ length s.now)) }

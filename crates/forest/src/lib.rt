@@ -2,6 +2,7 @@
 
 #![tactic(auto)]
 
+pub mod child;
 pub mod depth;
 pub mod faults;
 pub mod told;

@@ -5,20 +5,15 @@
 
 ghost use Rattle.std.specs.Prelude.{◌≡◌, ◌≤◌, ◌<◌, length};
 
-use fields::{is_name_header, is_row_header, is_switch_header, read_row, read_switches};
-use parser::FaultyLine;
-
-const NEWLINE: u8 = 10;
-
-// "or over 1,024 rows"
-const MOST_ROWS: usize = 1024;
+use fields::{NEWLINE, is_name_header, is_row_header, is_switch_header, read_row, read_switches};
+use parser::{FaultyLine, MOST_ROWS};
 
 // How many bytes of a line are kept: one more than a row's line can have.
 const KEPT: usize = 44;
 
 // What the next line is to be; or it is faulty.
 #[derive(Clone, Copy, PartialEq, Eq, Debug)]
-pub enum Part {
+enum Part {
     Faulty,
     SwitchHeader,
     Switches,
@@ -64,14 +59,14 @@ impl Part {
 // bytes, as far as they are kept.
 #[derive(Clone, Copy)]
 pub struct Form {
-    pub part: Part,
-    pub line: usize,
-    pub rows: usize,
-    pub count: usize,
-    pub front: [u8; KEPT],
-    pub ghost begun: { 0 < line },
-    pub ghost low: { count ≤ 44 },
-    pub ghost room: { length front ≡ 44 },
+    part: Part,
+    line: usize,
+    rows: usize,
+    count: usize,
+    front: [u8; KEPT],
+    ghost begun: { 0 < line },
+    ghost low: { count ≤ 44 },
+    ghost room: { length front ≡ 44 },
 }
 
 impl Form {
@@ -89,6 +84,13 @@ impl Form {
             count: 0,
             front: [0; KEPT],
         }
+    }
+
+    // The line that the text has come to.
+    pub fn line_number(&self) -> usize
+        ensures { (result ≡ self.now.line) × (0 < result) }
+    {
+        self.line
     }
 
     // The line ends whose first bytes are kept.

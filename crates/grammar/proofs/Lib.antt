@@ -1,2 +1,3 @@
 pub mod Masks
 pub mod Places
+pub mod Listed

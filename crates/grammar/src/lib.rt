@@ -3,7 +3,6 @@
 #![tactic(auto)]
 
 pub mod kind;
-pub mod kinds;
 pub mod place;
 
 ghost use Rattle.std.specs.Prelude.{◌≡◌, ℕ};

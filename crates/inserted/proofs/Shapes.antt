@@ -12,7 +12,8 @@ use Rattle.steps.specs.Joining.{join}
 use Rattle.steps.specs.AfterSuper.{assignment}
 use Rattle.steps.specs.TopInsertion.{this_decl, arguments_decl, head_n, past_prop, access_row, accessor}
 use Rattle.inserted.specs.Insertions.{arguments_row, param_if, params_row, body_row, accessor_of}
-use Rattle.output.proofs.Writing.{size-leaf, size-one, size-join}
+use Rattle.output.proofs.Writing.{size-leaf, size-one}
+use Rattle.steps.proofs.Sizes.{size-join}
 
 -- the assignment after super
 pub size-assignment : (b : ℕ) → size (assignment b) ≡ 4

@@ -15,7 +15,7 @@ use Rattle.steps.specs.Bindings.{Binding, Binding.bind, number}
 use Rattle.steps.specs.Fused.{declared}
 use Rattle.steps.specs.TopInsertion.{past, accessor, arguments_decl, accessor_decls, param_numbers, this_decl, var_first}
 use Rattle.inserted.specs.Insertions.{accessor_of, accessor_decl}
-use Rattle.output.proofs.Writing.{size-join, size_node, size_none}
+use Rattle.output.proofs.Writing.{size_node, size_none}
 use Rattle.inserted.proofs.Shapes.{this_none, arguments_none, arguments_join, size_arguments, size-late, size-here}
 use Rattle.bindings.specs.Store.{binds, Store}
 use Rattle.bindings.specs.declared.frame.Frame.{Frame}
@@ -23,6 +23,7 @@ use Rattle.bindings.proofs.Numbered.{this_number, arguments_number}
 use Rattle.insertion.specs.Declarations.{Held, frame_accessors, frame_decls, param_after, bare_at}
 use Rattle.insertion.proofs.Links.{link-first}
 use Rattle.insertion.proofs.Declaring.{decls_from, decls-all, decls-next}
+use Rattle.steps.proofs.Sizes.{size-join}
 
 -- what a frame holds, as the code has it
 pub held : (s : Frame) → Held s.bindings.made.now s.bindings.cap s.bindings.count s.row

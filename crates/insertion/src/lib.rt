@@ -6,17 +6,14 @@ ghost use Rattle.std.specs.Prelude.{◌≡◌, ◌+◌, ◌<◌, ◌^◌};
 ghost use Rattle.grammar.specs.Kinds.{Var};
 ghost use Rattle.forest.specs.Forest.{Rows.none, Rows.node, size};
 ghost use Rattle.steps.specs.TopInsertion.{var_first};
-ghost use Rattle.output.specs.Output.{Done};
-ghost use Rattle.output.specs.Held.{grown};
+ghost use Rattle.output.specs.Held.{Puts};
 ghost use Rattle.insertion.specs.Declarations.{accessors_in, decls_in, param_after, bare_at};
 
-use bindings::Use;
 use bindings::frame::Frame;
 use bindings::view::Bindings;
-use grammar::kinds;
-use output::writer::{Writer, finish, new};
-
-const VAR: u32 = kinds::VAR as u32;
+use grammar::kind::Kind;
+use output::writer::Writer;
+use uses::Use;
 
 // The parameter behind `p` in its chain where `p` is taken, else `p`; 0 is none.
 fn after(bindings: Bindings<'_>, p: u32, taken: bool) -> u32
@@ -34,90 +31,69 @@ fn after(bindings: Bindings<'_>, p: u32, taken: bool) -> u32
 
 // The Declarators of a frame's accessors, by first use: along the chain of accessors, and beside it
 // along that of their parameters.
-fn accessor_declarators(frame: Frame<'_>, out: &mut [u8], at: usize) -> usize
-    requires { at + size (accessors_in frame none) < 2 ^ 32 }
-    ensures { Done out.old at (accessors_in frame.entry none) result out.new }
+fn accessor_declarators(frame: Frame<'_>, w: &mut Writer<'_>)
+    requires { w.old.at + size (accessors_in frame none) < 2 ^ 32 }
+    ensures same_reference { w.new.rows.ghost_name ≡ w.old.rows.ghost_name }
+    ensures rows { Puts w.old (accessors_in frame.entry none) w.new }
 {
     let all = frame.bindings;
-    let mut w = at;
-    let mut b = all.first_accessor(frame.row);
-    let mut p = all.first_param(frame.row);
-    // Two chains side by side, no counted index: an iterator over them would be no plainer.
+    let mut b = frame.first_accessor();
+    let mut p = frame.first_param();
+    // A loop by hand: two chains of numbers side by side, no counted index, for which an iterator would be no plainer.
     while b != 0 {
         let record = all.record(b);
         let v = after(all, p, record.property == 0);
-        w = inserted::accessor_declarator(out, w, b, record.usage, record.property, p, v);
-        p = after(all, v, record.usage == Use::Set as u32);
+        inserted::accessor_declarator(w, b, record.usage, record.property, p, v);
+        p = after(all, v, record.usage == Use::Set.number());
         b = all.next(b);
     }
-    w
 }
 
 // Whether the frame has no capture and no accessor.
 fn is_bare(frame: Frame<'_>) -> bool
     ensures { result ≡ bare_at frame.entry.bindings.made.now frame.entry.bindings.cap frame.entry.row }
 {
-    let all = frame.bindings;
-    (all.this_of(frame.row) == 0)
-        & (all.arguments_of(frame.row) == 0)
-        & (all.first_accessor(frame.row) == 0)
+    (frame.this_of() == 0) & (frame.arguments_of() == 0) & (frame.first_accessor() == 0)
 }
 
 // The Declarators of a frame's Var: `arguments`, guarded at Program; the accessors; `this`, with no
 // initialiser where `late`.
-fn declarators(frame: Frame<'_>, guarded: bool, late: bool, out: &mut [u8], at: usize) -> usize
-    requires { at + size (decls_in frame guarded late) < 2 ^ 32 }
-    ensures { Done out.old at (decls_in frame.entry guarded late) result out.new }
-{
-    let all = frame.bindings;
-    let arguments = all.arguments_of(frame.row);
-    let this = all.this_of(frame.row);
-    let first = inserted::arguments_declarator(out, at, arguments, guarded);
-    let last = accessor_declarators(frame, out, first);
-    inserted::this_declarator(out, last, this, late)
-}
-
-// The same behind what a writer has put.
-fn declare(w: &mut Writer<'_>, frame: Frame<'_>, guarded: bool, late: bool)
+fn declarators(frame: Frame<'_>, guarded: bool, late: bool, w: &mut Writer<'_>)
     requires { w.old.at + size (decls_in frame guarded late) < 2 ^ 32 }
     ensures same_reference { w.new.rows.ghost_name ≡ w.old.rows.ghost_name }
-    ensures forest { w.new ≡ grown w.old (decls_in frame.entry guarded late) }
+    ensures rows { Puts w.old (decls_in frame.entry guarded late) w.new }
 {
-    w.at = declarators(frame, guarded, late, w.rows, w.at);
+    let arguments = frame.arguments_of();
+    let this = frame.this_of();
+    inserted::arguments_declarator(w, arguments, guarded);
+    accessor_declarators(frame, w);
+    inserted::this_declarator(w, this, late);
 }
 
-// The Var with its Declarators, through one writer.
-fn variable_statement(
-    frame: Frame<'_>,
-    guarded: bool,
-    late: bool,
-    out: &mut [u8],
-    at: usize,
-) -> usize
-    requires { at + 1 + size (decls_in frame guarded late) < 2 ^ 32 }
-    ensures { Done out.old at (node Var 0 0 (decls_in frame.entry guarded late) none) result out.new }
+// The Var with its Declarators.
+fn variable_statement(frame: Frame<'_>, guarded: bool, late: bool, w: &mut Writer<'_>)
+    requires { w.old.at + 1 + size (decls_in frame guarded late) < 2 ^ 32 }
+    ensures same_reference { w.new.rows.ghost_name ≡ w.old.rows.ghost_name }
+    ensures rows { Puts w.old (node Var 0 0 (decls_in frame.entry guarded late) none) w.new }
 {
-    let mut w = new(out, at);
-    w.append(VAR, 0, 0, 0);
-    declare(&mut w, frame, guarded, late);
-    w.close(at);
-    finish(w)
+    let row = w.at;
+    w.append(Kind::Var as u32, 0, 0, 0);
+    declarators(frame, guarded, late, w);
+    w.close(row);
 }
 
-// The Var that goes first in a frame; nothing where the frame has no capture and no accessor. The
-// answer is the next row's number.
+// The Var that goes first in a frame; nothing where the frame has no capture and no accessor.
 pub fn insert_variable_statement_at_the_top_of_statements(
     frame: Frame<'_>,
     guarded: bool,
     late: bool,
-    out: &mut [u8],
-    at: usize,
-) -> usize
-    requires { at + size (var_first (decls_in frame guarded late) none) < 2 ^ 32 }
-    ensures { Done out.old at (var_first (decls_in frame.entry guarded late) none) result out.new }
+    w: &mut Writer<'_>,
+)
+    requires { w.old.at + size (var_first (decls_in frame guarded late) none) < 2 ^ 32 }
+    ensures same_reference { w.new.rows.ghost_name ≡ w.old.rows.ghost_name }
+    ensures rows { Puts w.old (var_first (decls_in frame.entry guarded late) none) w.new }
 {
-    if is_bare(frame) {
-        return at;
+    if !is_bare(frame) {
+        variable_statement(frame, guarded, late, w);
     }
-    variable_statement(frame, guarded, late, out, at)
 }

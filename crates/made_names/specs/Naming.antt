@@ -2,7 +2,8 @@
 use Rattle.std.specs.Prelude.{ℕ, ◌*◌, ◌/◌, ◌≡◌, Bool, cond, ◌&&◌, List, ◌++◌, length, take, drop, leb, Result, Ok, Err}
 use Rattle.names.specs.Bytes.{bytes_of}
 use Rattle.names.specs.Laid.{joined, pairs_from}
-use Rattle.base_text.specs.Refusals.{number_of, place_of, unless, front_of}
+use Rattle.names.specs.Answered.{if_accepted}
+use Rattle.base_text.specs.Refusals.{unless, front_of}
 use Rattle.base_text.specs.declared.Refusal.{Refusal}
 use Rattle.base_text.specs.declared.Refusal.TheVariants.{NoRoom}
 use Rattle.candidates.specs.MadeNames.{made_names}
@@ -13,22 +14,12 @@ use Rattle.made_names.specs.declared.Made.{Made}
 abbrev pub counts : (pairs bytes : ℕ) → Made
 counts pairs bytes = record { pairs = pairs; bytes = bytes }
 
--- The number of an answer, its place, and its counts of pairs and of bytes; a refusal's are base text's. "Every refusal has zero counts"; "an acceptance has number 0, place 0".
-abbrev pub naming_number : Result Made Refusal → ℕ
-naming_number (Ok made) = 0
-naming_number (Err refusal) = number_of refusal
-
-abbrev pub naming_place : Result Made Refusal → ℕ
-naming_place (Ok made) = 0
-naming_place (Err refusal) = place_of refusal
-
+-- The counts of an answer, of pairs and of bytes; its number and place are base text's. "Every refusal has zero counts".
 abbrev pub pair_count : Result Made Refusal → ℕ
-pair_count (Ok made) = made.pairs
-pair_count (Err refusal) = 0
+pair_count answer = if_accepted (λ made. made.pairs) answer
 
 abbrev pub byte_count : Result Made Refusal → ℕ
-byte_count (Ok made) = made.bytes
-byte_count (Err refusal) = 0
+byte_count answer = if_accepted (λ made. made.bytes) answer
 
 -- not 9: "where made text or pairs have no room". A pair has 8 bytes
 abbrev pub fits : (pair_room text_room : ℕ) (made : List (List ℕ)) → Bool

@@ -55,16 +55,12 @@ pub fn over(
         let more = 9 * size;
         return over(more, checked, out_pairs, out_text);
     }
-    if size <= 256 {
-        return below::<256, 256>(checked, out_pairs, out_text);
+    match size {
+        ..=256 => below::<256, 256>(checked, out_pairs, out_text),
+        ..=2304 => below::<2304, 2304>(checked, out_pairs, out_text),
+        // Every list that convert makes.
+        ..=20736 => below::<20736, 20736>(checked, out_pairs, out_text),
+        // As many as there may be, with fewer buckets, so that the stack stays below 1 MiB.
+        _ => below::<16384, 69632>(checked, out_pairs, out_text),
     }
-    if size <= 2304 {
-        return below::<2304, 2304>(checked, out_pairs, out_text);
-    }
-    // Every list that convert makes.
-    if size <= 20736 {
-        return below::<20736, 20736>(checked, out_pairs, out_text);
-    }
-    // As many as there may be, with fewer buckets, so that the stack stays below 1 MiB.
-    below::<16384, 69632>(checked, out_pairs, out_text)
 }

@@ -1,6 +1,5 @@
 // The names, once their numbers are found. Refusal 9.
 ghost use Rattle.std.specs.Prelude.{◌≡◌, ℕ, ◌+◌, ◌*◌, ◌≤◌, ◌<◌, length};
-ghost use Rattle.std.proofs.lemmas.List.Edits.{sets};
 ghost use Rattle.names.specs.Words.{names_in};
 ghost use Rattle.base_text.specs.Bindings.{records_in};
 ghost use Rattle.candidates.specs.MadeNames.{made_names};

@@ -4,8 +4,12 @@ use mathlib.Core.List.{List, [], ◌∷◌, ◌++◌, append_assoc}
 use Prim.Native.Nat.{ℕ, zero, suc, ◌+◌, ◌*◌, ◌≤◌, ◌<◌}
 use native.Mathlib.Omega.{arith}
 use lib.ListN.{length, take, drop, get_or, length-append}
-use lib.Seq.{take-append_seam, drop-append-add}
+use lib.Seq.{drop-length, take-append_seam, drop-append-add}
 use Rattle.names.specs.Laid.{joined, pairs_from}
+
+-- nothing is left where all of a list is dropped
+pub drop_all : (m : ℕ) (s : List ℕ) → length s ≡ m → drop m s ≡ []
+drop_all m s h = ap (λ (n : ℕ). drop n s) (sym h) ∙ drop-length s
 
 -- the text of two lists of names
 pub joined-append : (xs ys : List (List ℕ)) → joined (xs ++ ys) ≡ joined xs ++ joined ys

@@ -4,3 +4,4 @@ pub mod Utf8
 pub mod First
 pub mod Names
 pub mod Laid
+pub mod Answered

@@ -57,6 +57,8 @@ pub fn is_utf8(s: &[u8]) -> bool
     ensures { result ≡ utf8 s.now }
 {
     let mut i: usize = 0;
+    // A loop by hand: a sequence has one to four bytes, so that no range or `chunks` has these steps, and the bytes left in place of i
+    // would be no plainer.
     while i < s.len() {
         let w = seq_at(s, i);
         if w == 0 {

@@ -4,12 +4,11 @@ use mathlib.Core.Path.{◌≡◌, refl, ap, sym, subst, ◌∙◌}
 use mathlib.Core.Bool.{Bool, true, false, cond, true≢false}
 use mathlib.Core.List.{List}
 use native.Mathlib.Omega.{arith}
-use borrow.Author.Tests.{lt-ltb, le-leb}
 use lib.ListN.{length, get_or}
 use Rattle.names.specs.Words.{names_in}
 use Rattle.names.specs.Names.{same_bytes}
 use Rattle.spelling.specs.Hash.{hash_of}
-use Rattle.spelling.specs.Spelling.{is_name, GivenNames}
+use Rattle.spelling.specs.Spelling.{GivenNames}
 use Rattle.spelling.proofs.Hashing.{same-list}
 use Rattle.buckets.specs.Search.{first_where}
 use Rattle.buckets.proofs.Finding.{Finding, finding_start, finding_done, finding_low, finding_next, finding_less}
@@ -17,17 +16,15 @@ use Rattle.base_text.specs.Bindings.{records_in}
 use Rattle.base_text.proofs.Checking.{fronted, good_names}
 use Rattle.candidates.specs.Candidates.{candidate, behind}
 use Rattle.candidates.specs.Faults.{Sound}
+use Rattle.candidates.specs.declared.Checked.{Checked}
 use Rattle.numbers.specs.Entries.{entry_at, entries}
-use Rattle.numbers.specs.Tables.{is_text, in_bucket, Seeking, Stored, Entered}
+use Rattle.numbers.specs.Tables.{is_text, in_bucket, Seeking, Stored}
 use Rattle.numbers.proofs.Searching.{is_found, not_found, seeking_next, seeking_done}
 use Rattle.numbers.proofs.Entering.{entries-long, entry_in, in-bucket}
 
 -- what 4 leaves of the names
 pub given : {bindings names text : List ℕ} → Sound bindings names text → GivenNames names text
 given {bindings} {names} {text} s k p l = good_names names text (fronted bindings names text s.front).named k p l
-
-pub is_name_lem : (names : List ℕ) (k : ℕ) → 0 < k → k ≤ names_in names → is_name names k ≡ true
-is_name_lem names k p l = rw (lt-ltb 0 k p, le-leb k (names_in names) l)
 
 -- a spelling is looked for in its bucket
 outside : (x : List ℕ) (buckets h : ℕ) → h ≡ hash_of x % buckets → (r : List ℕ) → in_bucket buckets h r ≡ false → is_text x r ≡ false
@@ -71,9 +68,10 @@ few-entries {bindings} {names} {text} s count l =
     let f = (fronted bindings names text s.front).sizes in
     omega (arith, f.records, f.few)
 
--- entry e in bucket h, by another word for the bucket
-pub entered_as : {h g e : ℕ} {a b c d : List ℕ} → h ≡ g → Entered h e a b c d → Entered g e a b c d
-entered_as {e = e} {a} {b} {c} {d} q n = subst (λ (m : ℕ). Entered m e a b c d) q n
+-- what is so of a script, its numbers and a count is so of the same ones
+pub over_same : (P : Checked → List ℕ → ℕ → Type 0) {C C' : Checked} {n n' : List ℕ} {k k' : ℕ} → (C ≡ C') × (n ≡ n') × (k ≡ k') → P C n k → P C' n' k'
+over_same P {C} {C'} {n} {n'} {k} {k'} q p =
+    subst (λ (x : Checked). P x n' k') q.0 (subst (λ (x : List ℕ). P C x k') q.1 (subst (P C n) q.2 p))
 
 -- The loop over the numbers of a base.
 module _ {ts : List (List ℕ)} {base : List ℕ} {n e : ℕ} (S : Seeking ts base n) (q : e ≡ first_where (is_text (candidate base n)) 1 ts) where

@@ -14,9 +14,12 @@ use Rattle.spelling.specs.Hash.{hash_of}
 use Rattle.base_text.specs.Bindings.{records_in}
 use Rattle.base_text.specs.Refusals.{base_text}
 use Rattle.candidates.specs.Candidates.{candidate, behind, make_all}
+use Rattle.candidates.specs.declared.Checked.{Checked}
 use Rattle.candidates.specs.MadeNames.{names_from, names_of, bases_from, bases_of, made_names}
 use Rattle.numbers.specs.Entries.{entries, made_from}
-use Rattle.numbers.specs.Tables.{Found, Reached, Entered, Numbering, Named, Empty, Numbered}
+use Rattle.numbers.specs.Tables.{Found, Reached, Numbering, Named, Empty, Numbered}
+use Rattle.numbers.specs.declared.Tables.{Tables}
+use Rattle.numbers.specs.Lent.{named, records, put, Same, Fits, Right, Blank}
 use Rattle.numbers.proofs.Entering.{entries_names, entries_next, names_snoc, found_new}
 use Rattle.numbers.proofs.Reaching.{reached_none, reached_more}
 
@@ -40,30 +43,69 @@ module _ (names text : List ℕ) where
   unfolding names_from
   entering_start f = record { few = omega arith; same_lasts = refl; same_befores = refl; found = f }
 
-  pub entering_next : {lasts befores lasts' befores' : List ℕ} {buckets room k : ℕ} → Entering names text lasts befores buckets room k → k < names_in names → 0 < buckets → names_in names < room
-      → Entered (hash_of (bytes_of names text (k + 1)) % length lasts) (k + 1) lasts lasts' befores befores' → Entering names text lasts' befores' buckets room (k + 1)
-  entering_next {lasts} {befores} {lasts'} {befores'} {buckets} {room} {k} N l s r E =
-      let h : ℕ = hash_of (bytes_of names text (k + 1)) % length lasts in
-      let one : 1 + k ≡ k + 1 = omega arith in
-      let q : names_from names text 1 (k + 1) ≡ names_from names text 1 k ++ (bytes_of names text (k + 1) ∷ []) =
-      ap (names_from names text 1) (let z : k + 1 ≡ suc k = omega arith in z) ∙ names_snoc [] names text 1 k ∙ ap (λ (m : ℕ). names_from names text 1 k ++ (bytes_of names text m ∷ [])) one in
-      record {
-        few = omega arith;
-        same_lasts = ap length E.last ∙ length-set lasts h (k + 1) ∙ N.same_lasts;
-        same_befores = ap length E.before ∙ length-set befores (k + 1) (get_or lasts h 0) ∙ N.same_befores;
-        found =
-            subst (λ (xs : List (List ℕ)). Found lasts' befores' xs) (sym q)
-            (subst (λ (x : List ℕ). Found x befores' (names_from names text 1 k ++ (bytes_of names text (k + 1) ∷ []))) (sym E.last)
-            (subst (λ (x : List ℕ). Found (set lasts h (k + 1)) x (names_from names text 1 k ++ (bytes_of names text (k + 1) ∷ []))) (sym E.before)
-            (found_new lasts befores N.found (bytes_of names text (k + 1)) h (k + 1) refl (mod-lt (hash_of (bytes_of names text (k + 1))) (omega (arith, N.same_lasts))) (ap (λ (m : ℕ). m + 1) (names_long 1 k))
-            (omega (arith, N.same_befores)))));
-      }
+  module _ {lasts befores : List ℕ} {buckets room k : ℕ} (N : Entering names text lasts befores buckets room k) (l : k < names_in names) (s : 0 < buckets) (r : names_in names < room) where
+    abbrev h : ℕ
+    h = hash_of (bytes_of names text (k + 1)) % length lasts
+
+    abbrev lasts' : List ℕ
+    lasts' = set lasts h (k + 1)
+
+    abbrev befores' : List ℕ
+    befores' = set befores (k + 1) (get_or lasts h 0)
+
+    pub entering_next : Entering names text lasts' befores' buckets room (k + 1)
+    entering_next =
+        let one : 1 + k ≡ k + 1 = omega arith in
+        let q : names_from names text 1 (k + 1) ≡ names_from names text 1 k ++ (bytes_of names text (k + 1) ∷ []) =
+        ap (names_from names text 1) (let z : k + 1 ≡ suc k = omega arith in z) ∙ names_snoc [] names text 1 k ∙ ap (λ (m : ℕ). names_from names text 1 k ++ (bytes_of names text m ∷ [])) one in
+        record {
+          few = omega arith;
+          same_lasts = length-set lasts h (k + 1) ∙ N.same_lasts;
+          same_befores = length-set befores (k + 1) (get_or lasts h 0) ∙ N.same_befores;
+          found =
+              subst (λ (xs : List (List ℕ)). Found lasts' befores' xs) (sym q)
+              (found_new lasts befores N.found (bytes_of names text (k + 1)) h (k + 1) refl (mod-lt (hash_of (bytes_of names text (k + 1))) (omega (arith, N.same_lasts))) (ap (λ (m : ℕ). m + 1) (names_long 1 k))
+              (omega (arith, N.same_befores)));
+        }
 
   -- names hold nothing of the numbers behind them
   reached_names : {reached : List ℕ} → ((e : ℕ) → get_or reached e 0 ≡ 0) → (k n : ℕ) → Reached reached (names_from names text k n)
   unfolding names_from
   reached_names z k zero = reached_none _ z
   reached_names {reached} z k (suc n) = subst (Reached reached) (sym (names_snoc [] names text k n)) (reached_more (reached_names z k n) (bytes_of names text (k + n)))
+
+-- The same of the tables, which are otherwise as they were.
+pub record Filing (t t' : Tables) (k : ℕ) : Type 0 where
+  pub same : Same t t'
+  pub reached : t'.reached.now ≡ t.reached.now
+  pub numbers : t'.numbers.now ≡ t.numbers.now
+  pub entering : Entering t.checked.script.names.now t.checked.script.text.now t'.lasts.now t'.befores.now (length t.lasts.now) (length t.befores.now) k
+
+pub filing_start : {t : Tables} → Found t.lasts.now t.befores.now [] → Filing t t 0
+filing_start f = record {
+  same = record { lasts = refl; befores = refl; reached = refl; numbers = refl; script = refl; long = (refl, refl, refl, refl) };
+  reached = refl;
+  numbers = refl;
+  entering = entering_start _ _ f;
+}
+
+pub filing_next : {t t' u : Tables} {k : ℕ} → Filing t t' k → k < named t → Fits t (named t) → u ≡ put t' (bytes_of t.checked.script.names.now t.checked.script.text.now (k + 1)) (k + 1) → Filing t u (k + 1)
+filing_next {t} {t'} {u} {k} F l m q =
+    let S = F.same in
+    rw q
+    (record {
+      same = record {
+        lasts = S.lasts;
+        befores = S.befores;
+        reached = S.reached;
+        numbers = S.numbers;
+        script = S.script;
+        long = (length-set t'.lasts.now _ _ ∙ S.long.0, length-set t'.befores.now _ _ ∙ S.long.1, S.long.2, S.long.3);
+      };
+      reached = F.reached;
+      numbers = F.numbers;
+      entering = entering_next _ _ F.entering l m.some m.inside;
+    })
 
 -- The numbers of the first k bindings.
 module _ (bindings names text : List ℕ) where
@@ -182,3 +224,43 @@ module _ (bindings names text : List ℕ) where
           counted = M.counted ∙ ap (λ (x : List (List ℕ)). length (joined x)) (sym r);
           short = omega (arith, M.short);
         }
+
+-- The same of the tables.
+same_on : {t t' u : Tables} → Same t t' → Same t' u → Same t u
+same_on S R = record {
+  lasts = R.lasts ∙ S.lasts;
+  befores = R.befores ∙ S.befores;
+  reached = R.reached ∙ S.reached;
+  numbers = R.numbers ∙ S.numbers;
+  script = R.script ∙ S.script;
+  long = (R.long.0 ∙ S.long.0, R.long.1 ∙ S.long.1, R.long.2 ∙ S.long.2, R.long.3 ∙ S.long.3);
+}
+
+pub record Numbers (t t' : Tables) (bytes k : ℕ) : Type 0 where
+  pub same : Same t t'
+  pub made : Made t.checked.script.bindings.now t.checked.script.names.now t.checked.script.text.now t'.lasts.now t'.befores.now t'.reached.now t'.numbers.now bytes k
+
+pub numbers-start : {t t' : Tables} → Blank t → Same t t' → Found t'.lasts.now t'.befores.now (names_of t.checked.script.names.now t.checked.script.text.now) → t'.reached.now ≡ t.reached.now → t'.numbers.now ≡ t.numbers.now → Numbers t t' 0 0
+numbers-start {t} {t'} B S F r n = record {
+  same = S;
+  made = rw (r, n) (made-start _ _ _ B S.long.0 S.long.1 F);
+}
+
+-- what is so of a script is so of the same one
+over_script : (P : Checked → Type 0) {C D : Checked} → C ≡ D → P C → P D
+over_script P q p = subst P q p
+
+pub numbers-right : {t t' : Tables} {bytes k : ℕ} → Numbers t t' bytes k → Right t' (named t + k)
+numbers-right {t} {t'} {k = k} N =
+    over_script (λ (C : Checked). Numbering C.script.bindings.now C.script.names.now C.script.text.now t'.lasts.now t'.befores.now t'.reached.now t'.numbers.now (named t + k)) (sym N.same.script) N.made.numbering
+
+pub numbers-next : {t t' u : Tables} {bytes k more : ℕ} → Numbers t t' bytes k → k < records t → Same t' u → Right u (named t + k + 1)
+    → Named t'.checked.script.bindings.now t'.checked.script.names.now t'.checked.script.text.now (named t + k) (k + 1) more t'.numbers.now u.numbers.now → Numbers t u (bytes + more) (k + 1)
+numbers-next {t} {t'} {u} {k = k} {more} N l S R D =
+    let T = same_on N.same S in
+    record {
+      same = T;
+      made = made-next _ _ _ N.made l
+          (over_script (λ (C : Checked). Numbering C.script.bindings.now C.script.names.now C.script.text.now u.lasts.now u.befores.now u.reached.now u.numbers.now (named t + k + 1)) T.script R)
+          (over_script (λ (C : Checked). Named C.script.bindings.now C.script.names.now C.script.text.now (named t + k) (k + 1) more t'.numbers.now u.numbers.now) N.same.script D);
+    }

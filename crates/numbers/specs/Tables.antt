@@ -47,11 +47,6 @@ pub record Chosen (bindings names text numbers : List ℕ) (count b n : ℕ) (re
   pub number : n ≡ behind (entries bindings names text numbers count) (base_text b bindings names text)
   pub kept : Reached reached (entries bindings names text numbers count ++ (candidate (base_text b bindings names text) n ∷ []))
 
--- entry e was put into bucket h
-pub record Entered (h e : ℕ) (lasts lasts' befores befores' : List ℕ) : Type 0 where
-  pub last : lasts' ≡ set lasts h e
-  pub before : befores' ≡ set befores e (get_or lasts h 0)
-
 -- all four tables are right for the first `count` entries
 pub record Numbering (bindings names text lasts befores reached numbers : List ℕ) (count : ℕ) : Type 0 where
   pub stored : Stored bindings names text lasts befores numbers count

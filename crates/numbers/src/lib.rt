@@ -9,31 +9,22 @@
 
 #![tactic(auto)]
 
-ghost use Rattle.std.specs.Prelude.{◌≡◌, List, [], ◌∷◌, ◌++◌, ℕ, ◌+◌, ◌*◌, ◌%◌, ◌≤◌, ◌<◌, ◌^◌, length, get_or, set};
-ghost use Rattle.names.specs.Words.{names_in};
-ghost use Rattle.names.specs.Names.{bytes_of, same_bytes};
+ghost use Rattle.std.specs.Prelude.{◌≡◌, [], ◌+◌, ◌%◌, ◌≤◌, ◌<◌, length};
+ghost use Rattle.names.specs.Names.{same_bytes};
 ghost use Rattle.spelling.specs.Hash.{hash_of};
-ghost use Rattle.spelling.specs.Spelling.{GivenNames};
 ghost use Rattle.buckets.specs.Search.{first_where};
 ghost use Rattle.base_text.specs.Bindings.{records_in};
-ghost use Rattle.base_text.specs.Refusals.{base_text};
 ghost use Rattle.candidates.specs.Candidates.{candidate, behind};
 ghost use Rattle.candidates.specs.MadeNames.{names_of};
-ghost use Rattle.candidates.specs.Faults.{Sound};
-ghost use Rattle.numbers.specs.Entries.{entry_at, entries};
-ghost use Rattle.numbers.specs.Tables.{is_text, Seeking, Reached, Stored, Found, Chosen, Entered, Numbering, Named, Empty, Numbered};
+ghost use Rattle.numbers.specs.Entries.{entry_at};
+ghost use Rattle.numbers.specs.Tables.{is_text, Seeking, Stored, Found, Chosen, Named, Empty, Numbered};
 
 use buckets::pick;
 use candidates::{Checked, put_candidate};
-use names::words::cell;
-use spelling::{hash_bytes, is_spelled, same_bytes};
+use spelling::{Names, hash_bytes, same_bytes};
 
-// Room for a made name, which has at most 281 bytes.
-fn name_room() -> [u8; 288]
-    ensures { 288 ≡ length result }
-{
-    [0; 288]
-}
+// The most bytes of a made name are 281; a name is written into an array of this size.
+const NAME_ROOM: usize = 288;
 
 // The bucket of x, of so many.
 fn bucket(x: &[u8], buckets: usize) -> usize
@@ -55,6 +46,8 @@ struct Taken<'a> {
 }
 
 impl Taken<'_> {
+    ghost use Rattle.numbers.specs.Lent.{base, known};
+
     // Whether entry e is x.
     fn is_entry(self, x: &[u8], e: usize) -> bool
         requires { (0 < e) × (e ≤ self.count) }
@@ -63,158 +56,188 @@ impl Taken<'_> {
         let script = self.checked.script;
         let named = script.names.len() / 8;
         if e <= named {
-            return is_spelled(script.names, script.text, e, x);
+            let names = Names {
+                pairs: script.names,
+                text: script.text,
+            };
+            return names.is_spelled(e, x);
         }
-        let mut name = name_room();
+        let mut name = [0; NAME_ROOM];
         let end = put_candidate(&mut name, 0, (e - named) as u32, self.numbers[e], script);
         same_bytes(&name[..end], x)
     }
 
     // The first entry that is x, 0 where there is none, as in the tables and in `pick`: an Option would only turn that 0 back and
     // forth. The entries of its bucket are looked at one by one.
-    fn find(self, x: &[u8]) -> usize
-        ensures { (result ≡ first_where (is_text x.now) 1 (entries self.entry.checked.script.bindings.now self.entry.checked.script.names.now self.entry.checked.script.text.now self.entry.numbers.now self.entry.count)) × (result ≤ self.entry.count) }
+    fn find(&self, x: &[u8]) -> usize
+        ensures { (result ≡ first_where (is_text x.now) 1 (known self.now.checked self.now.numbers.now self.now.count)) × (result ≤ self.now.count) }
     {
-        let h = bucket(x, self.lasts.len());
+        // A copy, which is read once and not at each entry.
+        let taken = *self;
+        let h = bucket(x, taken.lasts.len());
         let mut found: usize = 0;
-        let mut e = self.lasts[h] as usize;
+        let mut e = taken.lasts[h] as usize;
+        // A loop by hand: a chain of numbers, no counted index, for which an iterator would be no plainer.
         while e != 0 {
-            let it = self.is_entry(x, e);
+            let it = taken.is_entry(x, e);
             found = pick(it, e, found);
-            e = self.befores[e] as usize;
+            e = taken.befores[e] as usize;
         }
         found
     }
 
-    // The same of the made name of binding b with the number n. Inlined, so that what is taken is not copied at each call.
+    // The same of the made name of binding b with the number n. Inlined into both of its callers, as it was measured.
     #[inline(always)]
-    fn find_candidate(self, b: u32, n: u32) -> usize
-        requires { (0 < b) × (b ≤ records_in self.checked.script.bindings.now) }
-        ensures { (result ≡ first_where (is_text (candidate (base_text b self.entry.checked.script.bindings.now self.entry.checked.script.names.now self.entry.checked.script.text.now) n)) 1
-            (entries self.entry.checked.script.bindings.now self.entry.checked.script.names.now self.entry.checked.script.text.now self.entry.numbers.now self.entry.count)) × (result ≤ self.entry.count) }
+    fn find_candidate(&self, b: u32, n: u32) -> usize
+        requires { (0 < b) × (b ≤ records_in self.now.checked.script.bindings.now) }
+        ensures { (result ≡ first_where (is_text (candidate (base self.now.checked b) n)) 1 (known self.now.checked self.now.numbers.now self.now.count)) × (result ≤ self.now.count) }
     {
-        let mut name = name_room();
+        let mut name = [0; NAME_ROOM];
         let end = put_candidate(&mut name, 0, b, n, self.checked.script);
         self.find(&name[..end])
     }
 
     // The number that frees binding b's name, where all numbers below `from` are taken.
-    fn free_number(self, b: u32, from: u32) -> u32
-        requires b_nonzero { (0 < b) × (b ≤ records_in self.checked.script.bindings.now) }
-        requires seeking { Seeking (entries self.checked.script.bindings.now self.checked.script.names.now self.checked.script.text.now self.numbers.now self.count) (base_text b self.checked.script.bindings.now self.checked.script.names.now self.checked.script.text.now) from }
-        ensures { result ≡ behind (entries self.entry.checked.script.bindings.now self.entry.checked.script.names.now self.entry.checked.script.text.now self.entry.numbers.now self.entry.count)
-            (base_text b self.entry.checked.script.bindings.now self.entry.checked.script.names.now self.entry.checked.script.text.now) }
+    fn free_number(&self, b: u32, from: u32) -> u32
+        requires b_nonzero { (0 < b) × (b ≤ records_in self.now.checked.script.bindings.now) }
+        requires seeking { Seeking (known self.now.checked self.now.numbers.now self.now.count) (base self.now.checked b) from }
+        ensures { result ≡ behind (known self.now.checked self.now.numbers.now self.now.count) (base self.now.checked b) }
     {
         let mut n = from;
+        // A loop by hand: the search has no bound of its own, so that a range and its `find` would need one, and an arm for a number
+        // that is never missing: no plainer.
         while self.find_candidate(b, n) != 0 {
             n += 1;
         }
         n
     }
+}
+
+// The four tables by which the numbers are found, as they are lent. By bucket: its last entry. By entry: the one before it in its
+// bucket, how far the numbers behind it are known to be taken, and the number that stands behind a made name.
+#[derive(Drop)]
+struct Tables<'a> {
+    lasts: &'a mut [u32],
+    befores: &'a mut [u32],
+    reached: &'a mut [u32],
+    numbers: &'a mut [u32],
+    checked: Checked<'a>,
+}
+
+impl Tables<'_> {
+    ghost use Rattle.numbers.specs.Lent.{named, records, base, put, reaching, Same, Fits, Held, Right, Blank};
+
+    // Puts entry e, which is x, into its bucket.
+    fn enter(&mut self, x: &[u8], e: usize)
+        requires { Fits self.old e }
+        ensures { self.new ≡ put self.old x.now e }
+    {
+        let h = bucket(x, self.lasts.len());
+        self.befores[e] = self.lasts[h];
+        self.lasts[h] = e as u32;
+    }
+
+    // Puts the made name of binding b with the number n, which is entry e, into its bucket, and answers its bytes.
+    fn enter_candidate(&mut self, b: u32, n: u32, e: usize) -> usize
+        requires b_nonzero { (0 < b) × (b ≤ records self.old) }
+        requires fits { Fits self.old e }
+        ensures value { (result ≡ length (candidate (base self.old.checked b) n)) × (result ≤ 281) }
+        ensures put { self.new ≡ put self.old (candidate (base self.old.checked b) n) e }
+    {
+        let mut name = [0; NAME_ROOM];
+        let end = put_candidate(&mut name, 0, b, n, self.checked.script);
+        self.enter(&name[..end], e);
+        end
+    }
+
+    // What is taken, of which so many entries are right.
+    fn taken(&self, count: usize) -> Taken<'_>
+        requires { Held self.now count }
+        ensures { (result.checked ≡ self.now.checked) × (result.numbers.now ≡ self.now.numbers.now) × (result.count ≡ count) }
+    {
+        Taken {
+            lasts: self.lasts,
+            befores: self.befores,
+            numbers: self.numbers,
+            count,
+            checked: self.checked,
+        }
+    }
 
     // The number behind binding b's name, 1 for none. Where its bare name is an entry, that entry keeps the number.
-    fn choose(self, b: u32, reached: &mut [u32]) -> u32
-        requires b_nonzero { (0 < b) × (b ≤ records_in self.checked.script.bindings.now) }
-        requires count_in_bounds { (self.count < length reached.old) × Reached reached.old (entries self.checked.script.bindings.now self.checked.script.names.now self.checked.script.text.now self.numbers.now self.count) }
-        ensures { Chosen self.entry.checked.script.bindings.now self.entry.checked.script.names.now self.entry.checked.script.text.now self.entry.numbers.now self.entry.count b result reached.new }
+    fn choose(&mut self, b: u32, count: usize) -> u32
+        requires b_nonzero { (0 < b) × (b ≤ records self.old) }
+        requires right { Right self.old count }
+        ensures same { self.new ≡ reaching self.old self.new.reached.now }
+        ensures long { length self.new.reached.now ≡ length self.old.reached.now }
+        ensures chosen { Chosen self.old.checked.script.bindings.now self.old.checked.script.names.now self.old.checked.script.text.now self.old.numbers.now count b result self.new.reached.now }
     {
-        let bare = self.find_candidate(b, 1);
+        let taken = self.taken(count);
+        let bare = taken.find_candidate(b, 1);
         if bare == 0 {
             return 1;
         }
-        let from = reached[bare] + 1;
-        let n = self.free_number(b, from);
-        reached[bare] = n;
+        let from = self.reached[bare] + 1;
+        let n = taken.free_number(b, from);
+        self.reached[bare] = n;
         n
     }
-}
 
-// Puts entry e, which is x, into its bucket.
-fn enter(x: &[u8], e: usize, lasts: &mut [u32], befores: &mut [u32])
-    requires { (0 < length lasts.old) × ((e < length befores.old) × (e < 2 ^ 32)) }
-    ensures { Entered (hash_of x.now % length lasts.old) e lasts.old lasts.new befores.old befores.new }
-{
-    let h = bucket(x, lasts.len());
-    befores[e] = lasts[h];
-    lasts[h] = e as u32;
-}
+    // Finds the number behind binding b's name, which is entry count + 1, keeps it, and answers the bytes of the name.
+    fn number_binding(&mut self, b: u32, count: usize) -> usize
+        requires b_nonzero { (0 < b) × (b ≤ records self.old) × (count + 1 ≡ named self.old + b) }
+        requires right { Right self.old count }
+        ensures same { Same self.old self.new }
+        ensures right_2 { Right self.new (count + 1) }
+        ensures named { Named self.old.checked.script.bindings.now self.old.checked.script.names.now self.old.checked.script.text.now count b result self.old.numbers.now self.new.numbers.now }
+    {
+        let n = self.choose(b, count);
+        let e = count + 1;
+        self.numbers[e] = n;
+        self.enter_candidate(b, n, e)
+    }
 
-// Puts the made name of binding b with the number n, which is entry e, into its bucket, and answers its bytes.
-fn enter_candidate(
-    b: u32,
-    n: u32,
-    e: usize,
-    lasts: &mut [u32],
-    befores: &mut [u32],
-    checked: Checked,
-) -> usize
-    requires b_nonzero { (0 < b) × (b ≤ records_in checked.script.bindings.now) }
-    requires lasts_nonzero { (0 < length lasts.old) × ((e < length befores.old) × (e < 2 ^ 32)) }
-    ensures value { (result ≡ length (candidate (base_text b checked.entry.script.bindings.now checked.entry.script.names.now checked.entry.script.text.now) n)) × (result ≤ 281) }
-    ensures entered { Entered (hash_of (candidate (base_text b checked.entry.script.bindings.now checked.entry.script.names.now checked.entry.script.text.now) n) % length lasts.old) e
-        lasts.old lasts.new befores.old befores.new }
-{
-    let mut name = name_room();
-    let end = put_candidate(&mut name, 0, b, n, checked.script);
-    enter(&name[..end], e, lasts, befores);
-    end
-}
+    // Puts the names of the script, each the entry of its number, into their buckets.
+    fn enter_names(&mut self)
+        requires fits { Fits self.old (named self.old) }
+        requires found { Found self.old.lasts.now self.old.befores.now [] }
+        ensures same { Same self.old self.new }
+        ensures found_2 { Found self.new.lasts.now self.new.befores.now (names_of self.old.checked.script.names.now self.old.checked.script.text.now) }
+        ensures rest { (self.new.reached.now ≡ self.old.reached.now) × (self.new.numbers.now ≡ self.old.numbers.now) }
+    {
+        let script = self.checked.script;
+        let names = Names {
+            pairs: script.names,
+            text: script.text,
+        };
+        let count = script.names.len() / 8;
+        for k in 0..count {
+            let name = names.bytes_of(k + 1);
+            self.enter(name, k + 1);
+        }
+    }
 
-// Finds the number behind binding b's name, which is entry count + 1, keeps it, and answers the bytes of the name.
-fn number_binding(
-    b: u32,
-    count: usize,
-    lasts: &mut [u32],
-    befores: &mut [u32],
-    reached: &mut [u32],
-    numbers: &mut [u32],
-    checked: Checked,
-) -> usize
-    requires b_nonzero { (0 < b) × (b ≤ records_in checked.script.bindings.now) × (count + 1 ≡ names_in checked.script.names.now + b) }
-    requires numbering { Numbering checked.script.bindings.now checked.script.names.now checked.script.text.now lasts.old befores.old reached.old numbers.old count }
-    ensures numbering_2 { Numbering checked.entry.script.bindings.now checked.entry.script.names.now checked.entry.script.text.now lasts.new befores.new reached.new numbers.new (count + 1) }
-    ensures named { Named checked.entry.script.bindings.now checked.entry.script.names.now checked.entry.script.text.now count b result numbers.old numbers.new }
-{
-    let taken = Taken {
-        lasts,
-        befores,
-        numbers,
-        count,
-        checked,
-    };
-    let n = taken.choose(b, reached);
-    let e = count + 1;
-    numbers[e] = n;
-    enter_candidate(b, n, e, lasts, befores, checked)
-}
-
-// Puts name k, which is entry k, into its bucket.
-fn enter_name(k: usize, lasts: &mut [u32], befores: &mut [u32], checked: Checked)
-    requires k_in_names { (0 < k) × (k ≤ names_in checked.script.names.now) }
-    requires lasts_nonzero { (0 < length lasts.old) × ((k < length befores.old) × (k < 2 ^ 32)) }
-    ensures { Entered (hash_of (bytes_of checked.entry.script.names.now checked.entry.script.text.now k) % length lasts.old) k
-        lasts.old lasts.new befores.old befores.new }
-{
-    let pair = 2 * (k - 1);
-    let start = cell(checked.script.names, pair);
-    let end = start + cell(checked.script.names, pair + 1);
-    enter(&checked.script.text[start..end], k, lasts, befores);
-}
-
-// Puts the names of the table into their buckets.
-fn enter_names(lasts: &mut [u32], befores: &mut [u32], checked: Checked)
-    requires lasts_nonzero { (0 < length lasts.old) × ((names_in checked.script.names.now < length befores.old) × (names_in checked.script.names.now < 2 ^ 32)) }
-    requires found { Found lasts.old befores.old [] }
-    ensures { Found lasts.new befores.new (names_of checked.entry.script.names.now checked.entry.script.text.now) }
-{
-    let count = checked.script.names.len() / 8;
-    for k in 0..count {
-        enter_name(k + 1, lasts, befores, checked);
+    // Finds the number behind each made name, over tables of zeros, and answers how many bytes the names have together.
+    fn find_numbers(&mut self) -> usize
+        requires blank { Blank self.old }
+        ensures same { Same self.old self.new }
+        ensures numbered { Numbered self.old.checked.script.bindings.now self.old.checked.script.names.now self.old.checked.script.text.now result self.new.numbers.now }
+    {
+        let script = self.checked.script;
+        let named = script.names.len() / 8;
+        let count = base_text::records_in(script.bindings);
+        self.enter_names();
+        let mut bytes: usize = 0;
+        for k in 0..count {
+            bytes += self.number_binding(k as u32 + 1, named + k);
+        }
+        bytes
     }
 }
 
 // Finds the number behind each made name, over tables of zeros, and answers how many bytes the names have together. Behind
-// the names of the table, `numbers` then has the number of each binding.
+// the names of the table, `numbers` then has the number of each binding. The tables come one by one: lent as one struct, which then
+// stands in memory, they cost up to 1.2 per cent more instructions.
 pub fn number_all(
     lasts: &mut [u32],
     befores: &mut [u32],
@@ -225,20 +248,12 @@ pub fn number_all(
     requires empty { Empty checked.script.bindings.now checked.script.names.now lasts.old befores.old reached.old numbers.old }
     ensures { Numbered checked.entry.script.bindings.now checked.entry.script.names.now checked.entry.script.text.now result numbers.new }
 {
-    enter_names(lasts, befores, checked);
-    let named = checked.script.names.len() / 8;
-    let count = base_text::records_in(checked.script.bindings);
-    let mut bytes: usize = 0;
-    for k in 0..count {
-        bytes += number_binding(
-            k as u32 + 1,
-            named + k,
-            lasts,
-            befores,
-            reached,
-            numbers,
-            checked,
-        );
-    }
-    bytes
+    let mut tables = Tables {
+        lasts,
+        befores,
+        reached,
+        numbers,
+        checked,
+    };
+    tables.find_numbers()
 }

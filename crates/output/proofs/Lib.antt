@@ -3,4 +3,4 @@ pub mod Writing
 pub mod Recording
 pub mod Loops
 pub mod Placing
-pub mod Runs
+pub mod Held

@@ -8,8 +8,9 @@ use Rattle.forest.specs.Forest.{Rows, Rows.none, size}
 use Rattle.steps.specs.Joining.{join}
 use Rattle.steps.specs.Bindings.{Binding, Binding.bind}
 use Rattle.output.specs.Output.{emit_rows, emit_records, Done, Recorded, Copied}
-use Rattle.output.proofs.Writing.{size-join, emit-join, kept, nothing}
+use Rattle.output.proofs.Writing.{emit-join, kept, nothing}
 use Rattle.output.proofs.Recording.{length_record, none-copied}
+use Rattle.steps.proofs.Sizes.{size-join}
 
 -- the rows left, written from row w on into the bytes out, give what all of them, written from row `at` on, gave
 pub record Left (before : List ℕ) (at : ℕ) (all : Rows) (out : List ℕ) (w : ℕ) (left : Rows) : Type 0 where

@@ -13,6 +13,7 @@ use Rattle.forest.specs.Forest.{Rows, Rows.none, Rows.node, size}
 use Rattle.steps.specs.Joining.{join}
 use Rattle.output.specs.Output.{with_row, put, set_end, emit_rows, Appended, Done}
 use Rattle.output.proofs.Stores.{words-apart, word_over}
+use Rattle.steps.proofs.Sizes.{size-join}
 
 -- what `put` and `set_end` are, by the test
 put-at : (o : List ℕ) (r k a n e : ℕ) (b : Bool) → leb (r * 16 + 16) (length o) ≡ b → put o r k a n e ≡ cond b (with_row o r k a n e) o
@@ -115,11 +116,6 @@ put_node f o r k a n x =
     ∙ ap (λ (m : List ℕ). emit_rows m (r + 1) f) (end_put o r k a n x (r + 1 + size f))
 
 -- forests side by side
-pub size-join : (f g : Rows) → size (join f g) ≡ size f + size g
-unfolding size join
-size-join none g = omega arith
-size-join (node k a n i s) g = omega (arith, size-join s g)
-
 pub emit-join : (f g : Rows) (o : List ℕ) (r : ℕ) → emit_rows o r (join f g) ≡ emit_rows (emit_rows o r f) (r + size f) g
 unfolding emit_rows join size
 emit-join none g o r = let e : r + 0 ≡ r = omega arith in rw e

@@ -1,9 +1,9 @@
 -- What a writer is once it has put a row or a forest, or closed a row. Assumes nothing.
 use Rattle.std.specs.Prelude.{ℕ, ◌+◌}
 use denote.Ref.{at_last}
-use Rattle.forest.specs.Forest.{Rows, size}
+use Rattle.forest.specs.Forest.{Rows}
 use Rattle.output.specs.declared.writer.Writer.{Writer}
-use Rattle.output.specs.Output.{put, set_end, emit_rows}
+use Rattle.output.specs.Output.{put, set_end, Done}
 
 -- the same rows, lent as they were, with one more of them written, and the next row's number
 abbrev pub rowed : (w : Writer) (k a n e : ℕ) → Writer
@@ -13,6 +13,6 @@ rowed w k a n e = record { rows = at_last w.rows (put w.rows.now w.at k a n e); 
 abbrev pub closed : (w : Writer) (r : ℕ) → Writer
 closed w r = record { rows = at_last w.rows (set_end w.rows.now r w.at); at = w.at }
 
--- the same rows with the forest f written behind them
-abbrev pub grown : (w : Writer) (f : Rows) → Writer
-grown w f = record { rows = at_last w.rows (emit_rows w.rows.now w.at f); at = w.at + size f }
+-- the forest f was written behind what w has put, and w' is the writer then
+abbrev pub Puts : (w : Writer) (f : Rows) (w' : Writer) → Type 0
+Puts w f w' = Done w.rows.now w.at f w'.at w'.rows.now

@@ -1,4 +1,4 @@
-// Writing rows and records into bytes that the caller lends. A row or record that does not lie
+// Writing rows and records into bytes that the caller lends: rows by a `Writer`. A row or record that does not lie
 // whole in the bytes is left out, and the count goes on: over no bytes at all, a walk counts.
 
 #![tactic(auto)]
@@ -9,7 +9,6 @@ ghost use Rattle.std.specs.Prelude.{◌≡◌, ◌+◌, ◌≤◌, ◌<◌, ◌^
 ghost use Rattle.output.specs.Output.{set_end, Appended, Recorded};
 
 use names::words::put_word;
-use writer::{finish, new};
 
 // Row `at`, where it lies whole in the bytes; the answer is the next row's number.
 fn append_row(out: &mut [u8], at: usize, kind: u32, attr: u32, name: u32, end: u32) -> usize
@@ -27,18 +26,8 @@ fn append_row(out: &mut [u8], at: usize, kind: u32, attr: u32, name: u32, end: u
     next
 }
 
-// The same through a writer that holds the bytes, for callers that know none.
-pub fn append(out: &mut [u8], at: usize, kind: u32, attr: u32, name: u32, end: u32) -> usize
-    requires { at < 2 ^ 32 }
-    ensures { Appended out.old at kind attr name end result out.new }
-{
-    let mut w = new(out, at);
-    w.append(kind, attr, name, end);
-    finish(w)
-}
-
 // The end of row `at`, for a row whose children were written after it.
-pub fn patch_end(out: &mut [u8], at: usize, end: u32)
+fn patch_end(out: &mut [u8], at: usize, end: u32)
     requires { at < 2 ^ 32 }
     ensures { out.new ≡ set_end out.old at end }
 {

@@ -3,7 +3,7 @@
 ghost use Rattle.std.specs.Prelude.{◌≡◌, ◌+◌, ◌<◌, ◌^◌};
 ghost use Rattle.forest.specs.Forest.{Rows.none, Rows.node};
 ghost use Rattle.output.specs.Output.{Done};
-ghost use Rattle.output.specs.Held.{rowed, closed};
+ghost use Rattle.output.specs.Held.{rowed, closed, Puts};
 
 use super::{append_row, close_row};
 
@@ -26,15 +26,49 @@ impl Writer<'_> {
     pub fn append(&mut self, kind: u32, attr: u32, name: u32, end: u32)
         requires { self.old.at < 2 ^ 32 }
         ensures same_reference { self.new.rows.ghost_name ≡ self.old.rows.ghost_name }
+        ensures next { self.new.at ≡ self.old.at + 1 }
         ensures row { self.new ≡ rowed self.old kind attr name end }
     {
         self.at = append_row(self.rows, self.at, kind, attr, name, end);
+    }
+
+    // A row with nothing inside.
+    pub fn leaf(&mut self, kind: u32, attr: u32, name: u32)
+        requires { self.old.at + 1 < 2 ^ 32 }
+        ensures same_reference { self.new.rows.ghost_name ≡ self.old.rows.ghost_name }
+        ensures next { self.new.at ≡ self.old.at + 1 }
+        ensures row { Puts self.old (node kind attr name none none) self.new }
+    {
+        let end = (self.at + 1) as u32;
+        self.append(kind, attr, name, end);
+    }
+
+    // A row with one row inside.
+    pub fn nested(
+        &mut self,
+        kind: u32,
+        attr: u32,
+        name: u32,
+        in_kind: u32,
+        in_attr: u32,
+        in_name: u32,
+    )
+        requires { self.old.at + 2 < 2 ^ 32 }
+        ensures same_reference { self.new.rows.ghost_name ≡ self.old.rows.ghost_name }
+        ensures next { self.new.at ≡ self.old.at + 2 }
+        ensures rows { Puts self.old (node kind attr name (node in_kind in_attr in_name none none) none) self.new }
+    {
+        let row = self.at;
+        self.append(kind, attr, name, 0);
+        self.leaf(in_kind, in_attr, in_name);
+        self.close(row);
     }
 
     // Row `row` ends where the writer stands: the rows put since are inside it.
     pub fn close(&mut self, row: usize)
         requires { (row < 2 ^ 32) × (self.old.at < 2 ^ 32) }
         ensures same_reference { self.new.rows.ghost_name ≡ self.old.rows.ghost_name }
+        ensures next { self.new.at ≡ self.old.at }
         ensures end { self.new ≡ closed self.old row }
     {
         close_row(self.rows, row, self.at);
@@ -64,27 +98,4 @@ pub fn finish<'a>(w: Writer<'a>) -> usize
     ensures { (result ≡ w.entry.at) × (w.exit.0.now ≡ w.entry.rows.now) }
 {
     w.at
-}
-
-// A row with one row inside, both through one writer; `end` is the number of the row after them, which
-// is the answer.
-pub fn append_nested(
-    out: &mut [u8],
-    at: usize,
-    kind: u32,
-    attr: u32,
-    name: u32,
-    in_kind: u32,
-    in_attr: u32,
-    in_name: u32,
-    end: u32,
-) -> usize
-    requires { end ≡ at + 2 }
-    ensures { Done out.old at (node kind attr name (node in_kind in_attr in_name none none) none) result out.new }
-{
-    let mut w = new(out, at);
-    w.append(kind, attr, name, 0);
-    w.append(in_kind, in_attr, in_name, end);
-    w.close(at);
-    finish(w)
 }

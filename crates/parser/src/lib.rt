@@ -19,7 +19,7 @@ use names::words::put_pair;
 use store::put_row;
 
 // "or over 1,024 rows"
-const MOST_ROWS: usize = 1024;
+pub const MOST_ROWS: usize = 1024;
 
 // The first line that is faulty or missing, from 1.
 #[derive(Clone, Copy, PartialEq, Eq, Debug)]
@@ -34,6 +34,8 @@ fn read_rows(s: &[u8], line: usize, rows: &mut [u8]) -> Result<usize, FaultyLine
 {
     let mut rest = s;
     let mut n: usize = 0;
+    // A loop by hand: `split_line` gives the lines one by one, and their number is the answer: an iterator over it, with `enumerate`
+    // and a count besides, would be no plainer.
     while let Some((text, after)) = split_line(rest) {
         let fault = FaultyLine { line: line + n };
         let row = read_row(text).ok_or(fault)?;
@@ -64,6 +66,7 @@ fn read_names<'a>(s: &'a [u8], pairs: &mut [u8], text: &mut [u8]) -> Result<Name
     let mut rest = s;
     let mut k: usize = 0;
     let mut t: usize = 0;
+    // A loop by hand: the same, and what stands behind the header of the rows is handed on, which a `for` could not do: no plainer.
     while let Some((name, after)) = split_line(rest) {
         if is_row_header(name) {
             return Ok(Names {

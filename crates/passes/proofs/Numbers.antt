@@ -6,19 +6,13 @@ use mathlib.Core.Bool.{Bool, false}
 use lib.Dec.{eqb}
 use denote.Enum.Declared.{tag_of}
 use denote.Enum.Bare.{sameb, false_same}
-use Rattle.passes.specs.contracts.Capture.{the_type as capture_type}
-use Rattle.passes.specs.contracts.Access.{the_type as access_type}
 use Rattle.passes.specs.contracts.slots.Slot.{the_type as slot_type}
 use Rattle.passes.specs.contracts.states.State.{the_type as state_type}
 use Rattle.passes.specs.declared.slots.Slot.{Slot}
 use Rattle.passes.specs.declared.slots.Slot.TheVariants.{Free, OfMethod, BodyOf, LateBody, Wrapped, OfTarget, Callee, Dropped}
 use Rattle.passes.specs.declared.states.State.{State}
-use Rattle.passes.specs.declared.states.State.TheVariants.{List, Visit, Copy, Direct, Once, Heritage, Members}
-use Rattle.passes.specs.declared.Capture.{Capture}
-use Rattle.passes.specs.declared.Capture.TheVariants.{This, Arguments}
-use Rattle.passes.specs.declared.Access.{Access}
-use Rattle.passes.specs.declared.Access.TheVariants.{Get, Set}
-use Rattle.passes.specs.View.{slot_number, state_number, capture_number, access_number}
+use Rattle.passes.specs.declared.states.State.TheVariants.{List, Visit, Copy, Direct, Once, Heritage, Members, Unlisted}
+use Rattle.passes.specs.View.{slot_number, state_number}
 
 -- the number of `s as usize`
 pub slot_tag : (s : Slot) → tag_of slot_type s ≡ slot_number s
@@ -72,6 +66,7 @@ state_tag Direct = refl
 state_tag Once = refl
 state_tag Heritage = refl
 state_tag Members = refl
+state_tag Unlisted = refl
 
 -- what `a == b` says
 pub slot_same : (a b : Slot) → sameb slot_type a b ≡ eqb (slot_number a) (slot_number b)
@@ -93,12 +88,3 @@ slot_told a b e p = sym (e ∙ slot_same a b) ∙ p
 
 pub state_told : (a b : State) {r t : Bool} → r ≡ sameb state_type a b → r ≡ t → eqb (state_number a) (state_number b) ≡ t
 state_told a b e p = sym (e ∙ state_same a b) ∙ p
-
--- uses by the numbers of `u as u32`
-pub capture_tag : (u : Capture) → tag_of capture_type u + 1 ≡ capture_number u
-capture_tag This = refl
-capture_tag Arguments = refl
-
-pub access_tag : (u : Access) → tag_of access_type u + 3 ≡ access_number u
-access_tag Get = refl
-access_tag Set = refl

@@ -1,17 +1,14 @@
 -- The code's values as those of the steps. Assumes nothing.
-use Rattle.std.specs.Prelude.{ℕ, ◌≡◌}
+use Rattle.std.specs.Prelude.{ℕ, ◌≡◌, cond, ltb}
 use Rattle.steps.specs.Slots.{free, of_method, body_of, late_body, wrapped, of_target, callee, dropped}
 use Rattle.steps.specs.Acts.{Op, Op.row, Op.drop, Op.name, Op.call}
 use Rattle.steps.specs.AfterSuper.{list, visit, copy, direct, once, heritage, members}
 use Rattle.steps.specs.Fused.{Pass}
+use Rattle.uses.specs.Uses.{capture_number, access_number}
 use Rattle.passes.specs.declared.slots.Slot.{Slot}
 use Rattle.passes.specs.declared.slots.Slot.TheVariants as slot
 use Rattle.passes.specs.declared.states.State.{State}
 use Rattle.passes.specs.declared.states.State.TheVariants as state
-use Rattle.passes.specs.declared.Capture.{Capture}
-use Rattle.passes.specs.declared.Capture.TheVariants as capture
-use Rattle.passes.specs.declared.Access.{Access}
-use Rattle.passes.specs.declared.Access.TheVariants as access
 use Rattle.passes.specs.declared.Becomes.{Becomes}
 use Rattle.passes.specs.declared.Becomes.TheVariants as becomes
 use Rattle.passes.specs.declared.Pass as answer
@@ -27,7 +24,11 @@ slot_number slot.OfTarget = of_target
 slot_number slot.Callee = callee
 slot_number slot.Dropped = dropped
 
--- a state of module 7 by its number
+-- what a number says: a slot of the list, or that no step asks
+abbrev pub slotted : ℕ → ℕ
+slotted n = cond (ltb n 8) n free
+
+-- a state of module 7 by its number; 7 is none of the list's
 abbrev pub state_number : State → ℕ
 state_number state.List = list
 state_number state.Visit = visit
@@ -36,16 +37,11 @@ state_number state.Direct = direct
 state_number state.Once = once
 state_number state.Heritage = heritage
 state_number state.Members = members
+state_number state.Unlisted = 7
 
--- uses by their numbers: 1 this, 2 arguments
-abbrev pub capture_number : Capture → ℕ
-capture_number capture.This = 1
-capture_number capture.Arguments = 2
-
--- .. 3 get, 4 set
-abbrev pub access_number : Access → ℕ
-access_number access.Get = 3
-access_number access.Set = 4
+-- what a number says: a state of the list, or none
+abbrev pub stated : ℕ → ℕ
+stated n = cond (ltb n 7) n 7
 
 -- what becomes of a row
 unfoldable pub op_of : Becomes → Op

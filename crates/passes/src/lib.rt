@@ -6,33 +6,19 @@ pub mod slots;
 pub mod states;
 
 ghost use Rattle.std.specs.Prelude.{◌≡◌, cond, ◌&&◌, ◌||◌, eqb};
+ghost use Rattle.grammar.specs.Codes.{kind_number};
 ghost use Rattle.grammar.specs.Kinds.{Block, Body, Class, Field, Function, Method, StaticBlock};
-ghost use Rattle.steps.specs.Mode.{bit};
 ghost use Rattle.steps.specs.Acts.{Op.row};
 ghost use Rattle.steps.specs.Bindings.{closes};
 ghost use Rattle.steps.specs.AfterSuper.{list, visit, copy, once, heritage, members};
 ghost use Rattle.steps.specs.Fused.{met_of, direct_of, within, own, scan_of, next_of, anew, pass_of};
 ghost use Rattle.passes.specs.View.{slot_number, state_number, op_of, Says};
 
-use grammar::kinds::{
-    BLOCK, BODY, CALL, CLASS, EXPR_STMT, FIELD, FUNCTION, METHOD, PROGRAM, STATIC_BLOCK,
-};
+use grammar::kind::Kind;
 use slots::Slot;
 use states::State;
-
-// What is captured. The numbers are the uses in a binding's record.
-#[derive(Clone, Copy, PartialEq, Eq)]
-pub enum Capture {
-    This = 1,
-    Arguments = 2,
-}
-
-// What an accessor does. The numbers are the uses in a binding's record.
-#[derive(Clone, Copy, PartialEq, Eq)]
-pub enum Access {
-    Get = 3,
-    Set = 4,
-}
+use steps::has_bit;
+use uses::{Access, Capture};
 
 // What becomes of a row.
 #[derive(Clone, Copy)]
@@ -70,27 +56,28 @@ pub struct Pass {
     pub bind: usize,
 }
 
-// Whether bit 0 of an attr is set.
-fn low_bit(attr: usize) -> bool
-    ensures { result ≡ bit 1 attr }
-{
-    attr % 2 == 1
-}
-
 // "Any other called Super becomes a Sequence of itself and that assignment"; `sup`: its first child
 // is Super.
-fn met_of(state: State, kind: usize, sup: bool) -> bool
-    ensures { result ≡ met_of (state_number state) kind sup }
+#[tactic(auto, unfolding(steps::specs::Fused::met_of))]
+fn met_of(state: State, kind: Kind, sup: bool) -> bool
+    ensures { result ≡ met_of (state_number state) (kind_number kind) sup }
 {
-    (kind == CALL) & sup & matches!(state, State::Visit | State::Once | State::Heritage)
+    match kind {
+        Kind::Call if sup => matches!(state, State::Visit | State::Once | State::Heritage),
+        _ => false,
+    }
 }
 
 // "In each list (a Body's or Block's children) the first direct `super(..)` statement"; `called`:
 // its first child is a Call of Super.
-fn direct_of(state: State, kind: usize, called: bool) -> bool
-    ensures { result ≡ direct_of (state_number state) kind called }
+#[tactic(auto, unfolding(steps::specs::Fused::direct_of))]
+fn direct_of(state: State, kind: Kind, called: bool) -> bool
+    ensures { result ≡ direct_of (state_number state) (kind_number kind) called }
 {
-    (kind == EXPR_STMT) & called & (state == State::List)
+    match kind {
+        Kind::ExprStmt if called => matches!(state, State::List),
+        _ => false,
+    }
 }
 
 // The state inside of a row that the steps add.
@@ -128,12 +115,15 @@ fn next_of(state: State, first: bool) -> State
 }
 
 // Whether a row closes a frame: Program, StaticBlock, a Function's Body.
+#[tactic(auto, unfolding(steps::specs::Bindings::closes))]
 pub fn closes(slot: Slot, kind: usize) -> bool
     ensures { result ≡ closes (slot_number slot) kind }
 {
-    (kind == PROGRAM)
-        | (kind == STATIC_BLOCK)
-        | ((kind == BODY) & matches!(slot, Slot::BodyOf | Slot::LateBody))
+    match Kind::from(kind) {
+        Kind::Program | Kind::StaticBlock => true,
+        Kind::Body => matches!(slot, Slot::BodyOf | Slot::LateBody),
+        _ => false,
+    }
 }
 
 // Module 8, "with module 7 run, in a constructor where a Super left in place has that constructor as
@@ -145,35 +135,35 @@ fn anew(slot: Slot, kind: usize, m: usize) -> bool
 }
 
 // Inside of a Class: "only heritage and computed keys"; `keyed`: its key is computed.
-fn scan_member(kind: usize, keyed: bool) -> State
-    ensures { state_number result ≡ cond ((eqb kind Method || eqb kind Field) && keyed) once copy }
+fn scan_member(kind: Kind, keyed: bool) -> State
+    ensures { state_number result ≡ cond ((eqb (kind_number kind) Method || eqb (kind_number kind) Field) && keyed) once copy }
 {
-    if ((kind == METHOD) | (kind == FIELD)) & keyed {
-        State::Once
-    } else {
-        State::Copy
+    match kind {
+        Kind::Method | Kind::Field if keyed => State::Once,
+        _ => State::Copy,
     }
 }
 
 // The state of the children of a row that stays where rows are visited: "Functions and StaticBlocks
 // are not entered; of a Class only heritage and computed keys are." `set`: bit 0 of its attr.
-fn scan_kind(kind: usize, set: bool) -> State
-    ensures { state_number result ≡ cond (eqb kind Block || eqb kind Body) list (cond (eqb kind Function || eqb kind StaticBlock) copy (cond (eqb kind Class) (cond set heritage members) visit)) }
+fn scan_kind(kind: Kind, set: bool) -> State
+    ensures { state_number result ≡ cond (eqb (kind_number kind) Block || eqb (kind_number kind) Body) list
+        (cond (eqb (kind_number kind) Function || eqb (kind_number kind) StaticBlock) copy (cond (eqb (kind_number kind) Class) (cond set heritage members) visit)) }
 {
     match kind {
-        BLOCK | BODY => State::List,
-        FUNCTION | STATIC_BLOCK => State::Copy,
-        CLASS if set => State::Heritage,
-        CLASS => State::Members,
+        Kind::Block | Kind::Body => State::List,
+        Kind::Function | Kind::StaticBlock => State::Copy,
+        Kind::Class if set => State::Heritage,
+        Kind::Class => State::Members,
         _ => State::Visit,
     }
 }
 
 // The state of the children of a row that stays, of that kind and attr.
-fn scan_row(state: State, met: bool, first: bool, kind: usize, attr: usize) -> State
-    ensures { state_number result ≡ scan_of (state_number state) met first (row kind attr 0) }
+fn scan_row(state: State, met: bool, first: bool, kind: Kind, attr: usize) -> State
+    ensures { state_number result ≡ scan_of (state_number state) met first (row (kind_number kind) attr 0) }
 {
-    let set = low_bit(attr);
+    let set = has_bit(1, attr);
     if (state == State::Copy) | met {
         return State::Copy;
     }
@@ -195,7 +185,7 @@ fn scan_of(state: State, met: bool, first: bool, op: Becomes) -> State
     ensures { state_number result ≡ scan_of (state_number state) met first (op_of op) }
 {
     match op {
-        Becomes::Row { kind, attr, .. } => scan_row(state, met, first, kind, attr),
+        Becomes::Row { kind, attr, .. } => scan_row(state, met, first, Kind::from(kind), attr),
         Becomes::Drop => state,
         Becomes::Name { .. } => State::Copy,
         Becomes::Call { .. } => within(state),
@@ -226,8 +216,9 @@ pub fn pass_of(
         };
     }
     let here = own(slot, state);
-    let met = met_of(here, kind, sup);
-    let first = direct_of(here, kind, called);
+    let row = Kind::from(kind);
+    let met = met_of(here, row, sup);
+    let first = direct_of(here, row, called);
     let next = next_of(state, first);
     if anew(slot, kind, m) {
         return Pass {

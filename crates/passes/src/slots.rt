@@ -1,3 +1,7 @@
+// Slots.
+ghost use Rattle.std.specs.Prelude.{◌≡◌};
+ghost use Rattle.passes.specs.View.{slot_number, slotted};
+
 // How a row stands under its parent, as far as the steps ask.
 #[derive(Clone, Copy, PartialEq, Eq)]
 pub enum Slot {
@@ -19,4 +23,23 @@ pub enum Slot {
     // A part of a rewritten access that falls away: its Super, or the Target and the access of an
     // assignment.
     Dropped,
+}
+
+// The slot of a number: of one that is in no list nothing is asked.
+impl From<usize> for Slot {
+    ghost from_gives = { λ n slot. slot_number slot ≡ slotted n };
+
+    #[inline(always)]
+    fn from(n: usize) -> Slot {
+        match n {
+            1 => Slot::OfMethod,
+            2 => Slot::BodyOf,
+            3 => Slot::LateBody,
+            4 => Slot::Wrapped,
+            5 => Slot::OfTarget,
+            6 => Slot::Callee,
+            7 => Slot::Dropped,
+            _ => Slot::Free,
+        }
+    }
 }

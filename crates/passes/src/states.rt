@@ -1,4 +1,8 @@
-// What is done in a list of rows, by module 7.
+// The states of module 7.
+ghost use Rattle.std.specs.Prelude.{◌≡◌};
+ghost use Rattle.passes.specs.View.{state_number, stated};
+
+// What is done in a list of rows. A number that is in no list is Unlisted: its rows are visited, and nothing is met in them.
 #[derive(Clone, Copy, PartialEq, Eq)]
 pub enum State {
     // A statement list in which no direct super call was met yet.
@@ -15,4 +19,22 @@ pub enum State {
     Heritage,
     // The members of a Class.
     Members,
+    Unlisted,
+}
+
+impl From<usize> for State {
+    ghost from_gives = { λ n state. state_number state ≡ stated n };
+
+    fn from(n: usize) -> State {
+        match n {
+            0 => State::List,
+            1 => State::Visit,
+            2 => State::Copy,
+            3 => State::Direct,
+            4 => State::Once,
+            5 => State::Heritage,
+            6 => State::Members,
+            _ => State::Unlisted,
+        }
+    }
 }

@@ -13,16 +13,19 @@ use Rattle.steps.specs.Slots.{callee, dropped}
 use Rattle.steps.specs.Super.{first_name, first_inside}
 use Rattle.steps.specs.ArrowToFunction.{to_function?}
 use Rattle.steps.specs.Naming.{Names, named_arguments}
-use Rattle.steps.specs.Acts.{Ctx, Op, Op.row, Op.drop, Op.name, Kind, Kind.this, Kind.super, Kind.ident, Kind.access, Kind.assign, Kind.arrow, Kind.function, Kind.keyed, Kind.field, Kind.static, Kind.target, Kind.other, kind_of, reads?, sets?, act_of, act}
+use Rattle.steps.specs.Acts.{Ctx, Op, Op.row, Op.drop, Op.name, Kind, Kind.this, Kind.super, Kind.ident, Kind.access, Kind.assign}
+use Rattle.steps.specs.Acts.{Kind.arrow, Kind.function, Kind.keyed, Kind.field, Kind.static, Kind.target, Kind.other, kind_of, reads?, sets?, act_of, act}
 use Rattle.steps.specs.Context.{Spot, enter, late_c, act_c}
 use Rattle.below.specs.Below.{children}
 use Rattle.passes.specs.View.{op_of}
 use Rattle.acts.specs.Deciding.{spot_of, Does}
-use Rattle.acts.specs.declared.act.Act.{Act as Decided}
-use Rattle.plan.specs.declared.Act.{Act as Acted}
 use Rattle.plan.specs.Frames.{FramesBelow, OpLow, Small}
 use Rattle.plan.specs.Placing.{place_of}
 use Rattle.plan.specs.Taking.{Takes, ActLow, Placeable}
+use Rattle.names.proofs.Bools.{pick}
+use Rattle.acts.specs.declared.act.Act.{Act as Acted}
+use Rattle.acts.specs.declared.act.Spot.{Spot as ActsSpot}
+use Rattle.plan.specs.declared.place.Place.{Place}
 
 -- the frame that a step opens is below cap
 unfoldable pub StepBelow : ℕ → Step → Type 0
@@ -54,10 +57,6 @@ params_below w {cap} {c} {x} r a m e l h = subst (FramesBelow cap) (sym e) (ente
 pub body_below : (w : Switches) {cap : ℕ} {c x : Ctx} (r a : ℕ) (m : Bool) → x ≡ enter w (in_body r a m) c → r < cap → FramesBelow cap c → FramesBelow cap x
 unfolding StepBelow
 body_below w {cap} {c} {x} r a m e l h = subst (FramesBelow cap) (sym e) (enter_below w cap c h (in_body r a m) l)
-
-pick : (P : Op → Type 0) (x : Bool) (s t : Op) → P s → P t → P (cond x s t)
-pick P true s t h k = h
-pick P false s t h k = k
 
 module _ (N : Names) (w : Switches) (l : Bool) (c : Ctx) (sl o k a n : ℕ) (i : Rows) (cap : ℕ) (low : o < cap) where
   field_below : (x : Bool) → StepBelow cap (cond x along (in_value o))
@@ -133,7 +132,7 @@ module _ (N : Names) (w : Switches) (l : Bool) (c : Ctx) (sl o k a n : ℕ) (i :
       op-low = op-of (kind_of k)
 
       -- an act of the code that is the steps' act
-      pub act-low : (r : Acted) → Takes w c (act N w l c sl o k a n i) r → ActLow cap r
+      pub act-low : (r : Acted Place) → Takes w c (act N w l c sl o k a n i) r → ActLow cap r
       act-low r d = record {
         op = subst (OpLow cap) (sym d.becomes) op-low;
         one = subst (λ (s : Spot). FramesBelow cap s.ctx) (sym d.first) one_below;
@@ -141,18 +140,18 @@ module _ (N : Names) (w : Switches) (l : Bool) (c : Ctx) (sl o k a n : ℕ) (i :
       }
 
 -- the act that is decided in a spot has spots with numbers, and is the steps' act where it is handed on
-module _ (N : Names) (w : Switches) (l : Bool) (c : Ctx) (sl o k a n : ℕ) (i : Rows) {r : Decided} (d : Does w c (act N w l c sl o k a n i) r) where
+module _ (N : Names) (w : Switches) (l : Bool) (c : Ctx) (sl o k a n : ℕ) (i : Rows) {r : Acted ActsSpot} (d : Does w c (act N w l c sl o k a n i) r) where
   pub placeable : o < 16384 → FramesBelow 16384 c → Placeable r
   placeable low h = record {
     one = subst (λ (s : Spot). FramesBelow 16384 s.ctx) (sym d.first) (one_below N w l c sl o k a n i 16384 low h);
     more = subst (λ (s : Spot). FramesBelow 16384 s.ctx) (sym d.later) (more-below N w l c sl o k a n i 16384 low h);
   }
 
-  pub handed : {s : Acted} → (s.op ≡ r.op) × ((place_of s.one ≡ spot_of r.one) × (place_of s.more ≡ spot_of r.more)) → Takes w c (act N w l c sl o k a n i) s
+  pub handed : {s : Acted Place} → (s.op ≡ r.op) × ((place_of s.one ≡ spot_of r.one) × (place_of s.more ≡ spot_of r.more)) → Takes w c (act N w l c sl o k a n i) s
   handed {s} e = record { becomes = ap op_of e.0 ∙ d.becomes; first = e.1.0 ∙ d.first; later = e.1.1 ∙ d.later }
 
 -- the same where what `is_late` says is known
-pub row_act_low : (N : Names) (w : Switches) (q : Spot) (ws : List ℕ) (i cap : ℕ) → i < cap → FramesBelow cap q.ctx → Small ws i → (r : Acted)
+pub row_act_low : (N : Names) (w : Switches) (q : Spot) (ws : List ℕ) (i cap : ℕ) → i < cap → FramesBelow cap q.ctx → Small ws i → (r : Acted Place)
     → Takes w q.ctx (act_c N w q i (kind_at ws i) (attr_at ws i) (name_at ws i) (children ws i)) r → ActLow cap r
 unfolding act_c
 row_act_low N w q ws i cap low h s r d =

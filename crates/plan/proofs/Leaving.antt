@@ -8,15 +8,15 @@ use borrow.Author.Tests.{ltb-true, ltb-false, ne_eqb, eq-eqb}
 use lib.Dec.{eqb, ltb}
 use Rattle.grammar.specs.Kinds.{Super, Function}
 use Rattle.names.specs.Words.{kind_at, attr_at, name_at, end_at}
-use Rattle.forest.specs.Forest.{Rows, size, rows_at}
+use Rattle.forest.specs.Forest.{size, rows_at}
 use Rattle.forest.specs.Nested.{Nested, Range}
 use Rattle.forest.proofs.Walking.{rows_none, inner, later, rows_step}
-use Rattle.steps.specs.Mode.{Switches, bit}
+use Rattle.steps.specs.Mode.{Switches}
 use Rattle.steps.specs.Naming.{Names}
 use Rattle.steps.specs.Slots.{free, of_method, dropped}
 use Rattle.steps.specs.Paths.{Step.in_params, Step.in_body}
 use Rattle.steps.specs.Acts.{Act, act, by}
-use Rattle.steps.specs.Context.{Spot, into, leaves_c, late_c}
+use Rattle.steps.specs.Context.{Spot, into, leaves_c}
 use Rattle.below.specs.Below.{children}
 
 module _ (ws : List ℕ) (n : ℕ) (good : Nested ws n) where
@@ -75,9 +75,9 @@ module _ (ws : List ℕ) (n : ℕ) (good : Nested ws n) where
     function-outside h = ap (λ (b : Bool). not b && leaves_c N w (into w q act_here.one) (into w q act_here.more) (i + 1) (children ws i)) (eq-eqb (kind_at ws i) Function h)
 
     -- .. nor is anything where the code does not go down: a Function, or no child
-    pub not-down : (k x : ℕ) → k ≡ kind_at ws i → x ≡ end_at ws i → (not (eqb k Function) && ltb (i + 1) x) ≡ false → inside ≡ false
+    pub not-down : (t : Bool) (x : ℕ) → t ≡ not (eqb (kind_at ws i) Function) → x ≡ end_at ws i → (t && ltb (i + 1) x) ≡ false → inside ≡ false
     unfolding leaves_c
-    not-down k x p y h = go (eqb (kind_at ws i) Function) refl (subst (λ (m : ℕ). (not (eqb m Function) && ltb (i + 1) x) ≡ false) p h)
+    not-down t x p y h = go (eqb (kind_at ws i) Function) refl (subst (λ (m : Bool). (m && ltb (i + 1) x) ≡ false) p h)
       where
         go : (b : Bool) → eqb (kind_at ws i) Function ≡ b → (not (eqb (kind_at ws i) Function) && ltb (i + 1) x) ≡ false → inside ≡ false
         go true e g = rw e
@@ -128,41 +128,11 @@ module _ (ws : List ℕ) (n : ℕ) (good : Nested ws n) (i e : ℕ) (R : Range w
   }
 
 -- by the values that the code has: a Super that stays, and a row that is gone down into
-pub here_as : {k k' s s' : ℕ} {b : Bool} → k ≡ k' → b ≡ eqb s dropped → s ≡ s' → (eqb k' Super && not (eqb s' dropped)) ≡ (eqb k Super && not b)
-here_as p r q = rw (p, r, q) refl
+pub here_as : (k : ℕ) {s s' : ℕ} {t b : Bool} → t ≡ eqb k Super → b ≡ eqb s dropped → s ≡ s' → (eqb k Super && not (eqb s' dropped)) ≡ (t && not b)
+here_as k p r q = rw (p, r, q) refl
 
-pub no_function : (k f x : ℕ) → (not (eqb k Function) && ltb f x) ≡ true → k ≡ Function → ⊥
-no_function k f x h e = true≢false (sym (subst (λ (m : ℕ). (not (eqb m Function) && ltb f x) ≡ true) e h))
-
--- a constructor, by the values that the code has
-module _ (N : Names) (w : Switches) (q : Spot) (o k a : ℕ) (i : Rows) (k' a' : ℕ) (b : Bool) (p : k' ≡ k) (r : a' ≡ a) (s : b ≡ bit 4 a') where
-  tested : (eqb k' Function && b) ≡ (eqb k Function && bit 4 a)
-  tested = ap (λ (m : ℕ). eqb m Function && b) p ∙ ap (λ (x : Bool). eqb k Function && x) (s ∙ ap (bit 4) r)
-
-  abbrev inside-it : ℕ → Bool
-  inside-it a'' = leaves_c N w (into w q (by (in_params o a'' (eqb q.slot of_method)) free)) (into w q (by (in_body o a'' (eqb q.slot of_method)) free)) (o + 1) i
-
-  both : (x y z : Bool) → (x && y && z) ≡ ((x && y) && z)
-  both true y z = refl
-  both false y z = refl
-
-  late_is : late_c N w q o k a i ≡ ((eqb k' Function && b) && inside-it a')
-  unfolding late_c
-  late_is = both (eqb k Function) (bit 4 a) (inside-it a) ∙ ap (λ (x : Bool). x && inside-it a) (sym tested) ∙ ap (λ (m : ℕ). (eqb k' Function && b) && inside-it m) (sym r)
-
-  pub late_no : not (eqb k' Function && b) ≡ true → false ≡ late_c N w q o k a i
-  late_no e = sym (late_is ∙ go (eqb k' Function && b) e)
-    where
-      go : (x : Bool) → not x ≡ true → (x && inside-it a') ≡ false
-      go true h = absurd (true≢false (sym h))
-      go false h = refl
-
-  pub late_yes : not (eqb k' Function && b) ≡ false → (x : Bool) → x ≡ inside-it a' → x ≡ late_c N w q o k a i
-  late_yes e x h = h ∙ sym (late_is ∙ go (eqb k' Function && b) e)
-    where
-      go : (x : Bool) → not x ≡ false → (x && inside-it a') ≡ inside-it a'
-      go true h = refl
-      go false h = absurd (true≢false h)
+pub no_function : (k f x : ℕ) {t : Bool} → t ≡ not (eqb k Function) → (t && ltb f x) ≡ true → k ≡ Function → ⊥
+no_function k f x p h e = true≢false (sym (subst (λ (m : Bool). (m && ltb f x) ≡ true) (p ∙ ap (λ (m : ℕ). not (eqb m Function)) e) h))
 
 -- what the walk of a Function's Params and Body says, by the places that the code has
 pub leaves-from : (N : Names) (w : Switches) (ws : List ℕ) (i a : ℕ) {s p one more : Spot} {x : ℕ} {r m : Bool} → s ≡ p → m ≡ eqb s.slot of_method

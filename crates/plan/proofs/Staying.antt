@@ -1,6 +1,6 @@
 -- Which rows stay as they are, kind by kind. Assumes nothing.
 use mathlib.Core.Path.{◌≡◌, refl, sym, subst}
-use mathlib.Core.Bool.{Bool, true, false, cond, not, ◌&&◌, ◌||◌, false≢true}
+use mathlib.Core.Bool.{Bool, true, false, cond, not, ◌&&◌, ◌||◌}
 use Prim.Native.Nat.{ℕ}
 use lib.Dec.{eqb}
 use Rattle.steps.specs.Mode.{Switches, bit, async_only}
@@ -12,14 +12,8 @@ use Rattle.steps.specs.Bindings.{closes}
 use Rattle.steps.specs.Context.{Spot, act_c}
 use Rattle.steps.proofs.Credit.{eqb-eq}
 use Rattle.plan.specs.Staying.{is_plain, Stays}
-
-unnot : (x : Bool) → not x ≡ true → x ≡ false
-unnot true e = absurd (false≢true e)
-unnot false e = refl
-
-either : (C : Type 0) (x y : Bool) → (x || y) ≡ true → (x ≡ true → C) → (y ≡ true → C) → C
-either C true y e f g = f refl
-either C false y e f g = g e
+use borrow.Author.Tests.{not-true}
+use Rattle.names.proofs.Bools.{either}
 
 -- "AsyncOnly. From an Ident `arguments`", where one of the two does not hold
 ident_row : (x m t : Bool) (o p : Op) → (x && t) ≡ false → cond (x && m && t) o p ≡ p
@@ -33,16 +27,16 @@ module _ (w : Switches) (q : Spot) (a : ℕ) (bare : eqb q.slot wrapped ≡ fals
 
   pub this_stays : not q.ctx.takes_this ≡ true → Stays w q 9 a
   unfolding act_c act act_of kind_of closes
-  this_stays t = record { acted = λ N o n i. rw (unnot q.ctx.takes_this t); unclosed = refl; bare = bare }
+  this_stays t = record { acted = λ N o n i. rw (not-true q.ctx.takes_this t); unclosed = refl; bare = bare }
 
   pub super_stays : not (eqb q.slot dropped) ≡ true → Stays w q 10 a
   unfolding act_c act act_of kind_of closes
-  super_stays t = record { acted = λ N o n i. rw (unnot (eqb q.slot dropped) t); unclosed = refl; bare = bare }
+  super_stays t = record { acted = λ N o n i. rw (not-true (eqb q.slot dropped) t); unclosed = refl; bare = bare }
 
   pub ident_stays : (x : Bool) → x ≡ async_only w → not (x && q.ctx.takes_arguments) ≡ true → Stays w q 11 a
   unfolding act_c act act_of kind_of closes
   ident_stays x e t =
-      let f : (async_only w && q.ctx.takes_arguments) ≡ false = subst (λ (y : Bool). (y && q.ctx.takes_arguments) ≡ false) e (unnot (x && q.ctx.takes_arguments) t) in
+      let f : (async_only w && q.ctx.takes_arguments) ≡ false = subst (λ (y : Bool). (y && q.ctx.takes_arguments) ≡ false) e (not-true (x && q.ctx.takes_arguments) t) in
       record { acted = λ N o n i. rw (ident_row (async_only w) (named_arguments N n) q.ctx.takes_arguments (name 2 q.ctx.arguments_at) (row 11 a n) f); unclosed = refl; bare = bare }
 
   -- accesses, calls and assignments where `super` is not taken
@@ -51,7 +45,7 @@ module _ (w : Switches) (q : Spot) (a : ℕ) (bare : eqb q.slot wrapped ≡ fals
   outside-stays k m t = either (Here k) _ _ m (λ m₁. either (Here k) _ _ m₁ (λ m₂. either (Here k) _ _ m₂ (λ e. to 12 e twelve) (λ e. to 13 e thirteen)) (λ e. to 14 e fourteen)) (λ e. to 15 e fifteen)
     where
       f : q.ctx.takes_super ≡ false
-      f = unnot q.ctx.takes_super t
+      f = not-true q.ctx.takes_super t
 
       to : (j : ℕ) → eqb k j ≡ true → Here j → Here k
       to j e = subst Here (sym (eqb-eq k j e))
@@ -74,8 +68,8 @@ module _ (w : Switches) (q : Spot) (a : ℕ) (bare : eqb q.slot wrapped ≡ fals
   property_stays t = record { acted = λ N o n i. go n (bit 1 a); unclosed = refl; bare = bare }
     where
       go : (n : ℕ) (y : Bool) → does (row 25 a n) (by along (cond y free (cond (bit 2 a) 1 free))) (by along (cond (bit 2 a) 1 free)) ≡ does (row 25 a n) (by along free) (by along free)
-      go n true = rw (unnot (bit 2 a) t)
-      go n false = rw (unnot (bit 2 a) t)
+      go n true = rw (not-true (bit 2 a) t)
+      go n false = rw (not-true (bit 2 a) t)
 
   plain : (k : ℕ) → kind_of k ≡ other → ((sl : ℕ) → closes sl k ≡ false) → Stays w q k a
   unfolding act_c act act_of

@@ -11,13 +11,14 @@ use Rattle.steps.specs.Acts.{Ctx, Op, Op.row, Op.name, by, does, Kind.arrow, Kin
 use Rattle.steps.specs.Context.{Spot, enter, spot}
 use Rattle.passes.specs.View.{op_of}
 use Rattle.acts.specs.Deciding.{Does}
-use Rattle.acts.specs.declared.act.Act.{Act as Decided}
-use Rattle.plan.specs.declared.Act.{Act}
 use Rattle.plan.specs.Placing.{place_of}
 use Rattle.plan.specs.Taking.{Takes}
+use Rattle.acts.specs.declared.act.Act.{Act as Acted}
+use Rattle.acts.specs.declared.act.Spot.{Spot as ActsSpot}
+use Rattle.plan.specs.declared.place.Place.{Place}
 
 -- children in the same context, in these slots
-pub takes_along : (w : Switches) (c : Ctx) (A : StepsAct) (X : Op) (s t : ℕ) → A ≡ does X (by along s) (by along t) → (r : Act)
+pub takes_along : (w : Switches) (c : Ctx) (A : StepsAct) (X : Op) (s t : ℕ) → A ≡ does X (by along s) (by along t) → (r : Acted Place)
     → op_of r.op ≡ X → place_of r.one ≡ spot c s → place_of r.more ≡ spot c t → Takes w c A r
 unfolding enter
 takes_along w c A X s t q r p f g = subst (λ (B : StepsAct). Takes w c B r) (sym q) (record { becomes = p; first = f; later = g })
@@ -51,7 +52,7 @@ module _ (N : Names) (w : Switches) (l : Bool) (c : Ctx) (sl o k a n : ℕ) (i :
   unfolding act kind_of
   as_arrow e = rw e
 
-  module _ {r : Decided} where
+  module _ {r : Acted ActsSpot} where
     pub function-does : k ≡ 17 → Does w c (act_of N w l c sl o function k a n i) r → Does w c (act N w l c sl o k a n i) r
     function-does e d = subst (λ (B : StepsAct). Does w c B r) (as_function e) d
 
@@ -59,14 +60,6 @@ module _ (N : Names) (w : Switches) (l : Bool) (c : Ctx) (sl o k a n : ℕ) (i :
     arrow-does e d = subst (λ (B : StepsAct). Does w c B r) (as_arrow e) d
 
 -- an act in a spot that is the same as another
-pub takes_at : (N : Names) (w : Switches) (l : Bool) {p q : Spot} (o k a n : ℕ) (i : Rows) {r : Act} → p ≡ q
+pub takes_at : (N : Names) (w : Switches) (l : Bool) {p q : Spot} (o k a n : ℕ) (i : Rows) {r : Acted Place} → p ≡ q
     → Takes w p.ctx (act N w l p.ctx p.slot o k a n i) r → Takes w q.ctx (act N w l q.ctx q.slot o k a n i) r
 takes_at N w l o k a n i {r} e d = subst (λ (s : Spot). Takes w s.ctx (act N w l s.ctx s.slot o k a n i) r) e d
-
--- an act of words that are the same as others
-pub takes_of : (N : Names) (w : Switches) (l : Bool) (q : Spot) (o : ℕ) (i : Rows) {k k' a a' n n' : ℕ} {r : Act} → (k ≡ k') × ((a ≡ a') × (n ≡ n'))
-    → Takes w q.ctx (act N w l q.ctx q.slot o k a n i) r → Takes w q.ctx (act N w l q.ctx q.slot o k' a' n' i) r
-takes_of N w l q o i {k} {k'} {a} {a'} {n} {n'} {r} e d =
-    subst (λ (z : ℕ). Takes w q.ctx (act N w l q.ctx q.slot o z a' n' i) r) e.0
-    (subst (λ (z : ℕ). Takes w q.ctx (act N w l q.ctx q.slot o k z n' i) r) e.1.0
-    (subst (λ (z : ℕ). Takes w q.ctx (act N w l q.ctx q.slot o k a z i) r) e.1.1 d))

@@ -1,14 +1,13 @@
 // Module 8: whether a Super left in place has a constructor as its nearest Function.
 ghost use Rattle.std.specs.Prelude.{◌≡◌, Bool, ℕ, ◌+◌, eqb};
-ghost use Rattle.names.specs.Words.{words, rows_in, kind_at, attr_at};
+ghost use Rattle.names.specs.Words.{words, kind_at, attr_at};
 ghost use Rattle.forest.specs.Forest.{rows_at};
-ghost use Rattle.spelling.specs.Spelling.{GivenNames};
 ghost use Rattle.steps.specs.Outcome.{names_of};
 ghost use Rattle.steps.specs.Paths.{Step.in_params, Step.in_body};
 ghost use Rattle.steps.specs.Slots.{free, of_method};
 ghost use Rattle.steps.specs.Acts.{by};
 ghost use Rattle.steps.specs.Context.{into, leaves_c, late_c};
-ghost use Rattle.below.specs.Below.{At, children};
+ghost use Rattle.below.specs.Below.{children};
 ghost use Rattle.acts.specs.View.{switches_of};
 ghost use Rattle.plan.specs.Placing.{place_of};
 ghost use Rattle.plan.specs.Ranged.{Ranged};
@@ -16,41 +15,43 @@ ghost use Rattle.plan.specs.Ranged.{Ranged};
 use crate::place::{Place, placed};
 use crate::row_act;
 use acts::act::Spot;
-use acts::switches::{Switches, has_bit};
-use below::{attr_at, end_at, kind_at};
-use grammar::kinds::{FUNCTION, SUPER};
+use acts::switches::Switches;
+use below::{Node, attr_at, end_at, kind_at};
+use grammar::kind::Kind;
 use passes::slots::Slot;
+use spelling::Names;
+use steps::has_bit;
 
 // Whether a Super stays in the rows from `from` to `end`, outside of further Functions. The first row
 // is at `one`, the later ones are at `more`.
 fn leaves(
     rows: &[u8],
-    names: &[u8],
-    text: &[u8],
+    names: &Names<'_>,
     switches: Switches,
     one: Place,
     more: Place,
     from: usize,
     end: usize,
 ) -> bool
-    requires ranged { Ranged rows.now from end }
-    requires given_names { GivenNames names.now text.now }
-    ensures { result ≡ leaves_c (names_of names.now text.now) (switches_of switches) (place_of one) (place_of more) from (rows_at (words rows.now) from end) }
+    requires { Ranged rows.now from end }
+    ensures { result ≡ leaves_c (names_of names.now.pairs.now names.now.text.now) (switches_of switches) (place_of one) (place_of more) from (rows_at (words rows.now) from end) }
 {
     let mut i = from;
     let mut q = one;
-    // From sibling to sibling, each where the one before ends: no range has these steps.
+    // A loop by hand: each row's end is read for what stands inside it, and so tells where the next one starts; forest's `Children`
+    // would read and test it once more, and be no plainer.
     while i < end {
-        let kind = kind_at(rows, i);
+        let kind = Kind::from(kind_at(rows, i));
         let stop = end_at(rows, i);
         let slot = q.slot();
-        if (kind == SUPER) & !(slot == Slot::Dropped) {
+        if (kind == Kind::Super) & !(slot == Slot::Dropped) {
             return true;
         }
         let first = i + 1;
-        if (kind != FUNCTION) & (first < stop) {
-            let act = row_act(rows, names, text, switches, q, i, false);
-            if leaves(rows, names, text, switches, act.one, act.more, first, stop) {
+        if (kind != Kind::Function) & (first < stop) {
+            let node = Node { rows, at: i };
+            let act = row_act(node, names, switches, q, false);
+            if leaves(rows, names, switches, act.one, act.more, first, stop) {
                 return true;
             }
         }
@@ -60,22 +61,19 @@ fn leaves(
     false
 }
 
-// Whether a Super stays in the Function at row i, outside of further Functions.
+// Whether a Super stays in a Function, outside of further Functions.
 fn function_leaves(
-    rows: &[u8],
-    names: &[u8],
-    text: &[u8],
+    node: Node<'_>,
+    names: &Names<'_>,
     switches: Switches,
     q: Place,
-    i: usize,
     attr: usize,
 ) -> bool
-    requires at { At rows.now (rows_in rows.now) i }
-    requires given_names { GivenNames names.now text.now }
-    ensures { result ≡ leaves_c (names_of names.now text.now) (switches_of switches)
-        (into (switches_of switches) (place_of q) (by (in_params i attr (eqb (place_of q).slot of_method)) free))
-        (into (switches_of switches) (place_of q) (by (in_body i attr (eqb (place_of q).slot of_method)) free)) (i + 1) (children (words rows.now) i) }
+    ensures { result ≡ leaves_c (names_of names.now.pairs.now names.now.text.now) (switches_of switches)
+        (into (switches_of switches) (place_of q) (by (in_params node.entry.at attr (eqb (place_of q).slot of_method)) free))
+        (into (switches_of switches) (place_of q) (by (in_body node.entry.at attr (eqb (place_of q).slot of_method)) free)) (node.entry.at + 1) (children (words node.entry.rows.now) node.entry.at) }
 {
+    let i = node.at;
     let spot = q.spot();
     let context = spot.context;
     let method = spot.slot == Slot::OfMethod;
@@ -87,11 +85,10 @@ fn function_leaves(
         context: context.in_body(switches, i, attr, method),
         slot: Slot::Free,
     };
-    let stop = end_at(rows, i);
+    let stop = end_at(node.rows, i);
     leaves(
-        rows,
+        node.rows,
         names,
-        text,
         switches,
         placed(params),
         placed(body),
@@ -100,23 +97,15 @@ fn function_leaves(
     )
 }
 
-// Whether row i is a constructor that is the nearest Function of a Super left in place.
-pub fn is_late(
-    rows: &[u8],
-    names: &[u8],
-    text: &[u8],
-    switches: Switches,
-    q: Place,
-    i: usize,
-) -> bool
-    requires at { At rows.now (rows_in rows.now) i }
-    requires given_names { GivenNames names.now text.now }
-    ensures { result ≡ late_c (names_of names.now text.now) (switches_of switches) (place_of q) i (kind_at (words rows.now) i) (attr_at (words rows.now) i) (children (words rows.now) i) }
+// Whether a row is a constructor that is the nearest Function of a Super left in place.
+#[tactic(auto, unfolding(steps::specs::Context::late_c))]
+pub fn is_late(node: Node<'_>, names: &Names<'_>, switches: Switches, q: Place) -> bool
+    ensures { result ≡ late_c (names_of names.now.pairs.now names.now.text.now) (switches_of switches) (place_of q) node.entry.at (kind_at (words node.entry.rows.now) node.entry.at) (attr_at (words node.entry.rows.now) node.entry.at) (children (words node.entry.rows.now) node.entry.at) }
 {
-    let attr = attr_at(rows, i);
+    let attr = attr_at(node.rows, node.at);
     let constructor = has_bit(4, attr);
-    if !((kind_at(rows, i) == FUNCTION) & constructor) {
-        return false;
+    match Kind::from(kind_at(node.rows, node.at)) {
+        Kind::Function if constructor => function_leaves(node, names, switches, q, attr),
+        _ => false,
     }
-    function_leaves(rows, names, text, switches, q, i, attr)
 }

@@ -9,15 +9,17 @@ ghost use Rattle.acts.specs.View.{switches_of};
 ghost use Rattle.plan.specs.Placing.{place_of};
 ghost use Rattle.plan.specs.Taking.{Takes};
 
+use crate::hand_on;
 use crate::place::Place;
-use crate::{Act, hand_on};
-use acts::act::{Words, on_arrow, on_function};
-use acts::switches::{Switches, has_bit};
+use acts::act::{Act, Words, on_arrow, on_function};
+use acts::switches::Switches;
+use passes::Becomes;
 use passes::slots::Slot;
-use passes::{Becomes, Capture};
+use steps::has_bit;
+use uses::Capture;
 
 // A This: module 3.
-pub fn this_act(q: Place, row: Words) -> Act
+pub fn this_act(q: Place, row: Words) -> Act<Place>
     requires { row.kind ≡ 9 }
     ensures { (N : Names) (w : Target) (l : Bool) (o : ℕ) (i : Rows) → Takes w (place_of q).ctx (act N w l (place_of q).ctx (place_of q).slot o row.kind row.attr row.name i) result }
 {
@@ -44,7 +46,7 @@ pub fn this_act(q: Place, row: Words) -> Act
 }
 
 // A Method: its last child is method-like.
-pub fn method_act(q: Place, row: Words) -> Act
+pub fn method_act(q: Place, row: Words) -> Act<Place>
     requires { row.kind ≡ 21 }
     ensures { (N : Names) (w : Target) (l : Bool) (o : ℕ) (i : Rows) → Takes w (place_of q).ctx (act N w l (place_of q).ctx (place_of q).slot o row.kind row.attr row.name i) result }
 {
@@ -69,7 +71,7 @@ pub fn method_act(q: Place, row: Words) -> Act
 }
 
 // A Body.
-pub fn body_act(q: Place, row: Words) -> Act
+pub fn body_act(q: Place, row: Words) -> Act<Place>
     requires { row.kind ≡ 19 }
     ensures { (N : Names) (w : Target) (l : Bool) (o : ℕ) (i : Rows) → Takes w (place_of q).ctx (act N w l (place_of q).ctx (place_of q).slot o row.kind row.attr row.name i) result }
 {
@@ -86,7 +88,7 @@ pub fn body_act(q: Place, row: Words) -> Act
 }
 
 // The Function at that row.
-pub fn function_act(q: Place, row: Words, switches: Switches, at: usize, late: bool) -> Act
+pub fn function_act(q: Place, row: Words, switches: Switches, at: usize, late: bool) -> Act<Place>
     requires { (row.kind ≡ 17) × (at < 16384) }
     ensures { (N : Names) (i : Rows) → Takes (switches_of switches) (place_of q).ctx (act N (switches_of switches) late (place_of q).ctx (place_of q).slot at row.kind row.attr row.name i) result }
 {
@@ -95,7 +97,7 @@ pub fn function_act(q: Place, row: Words, switches: Switches, at: usize, late: b
 }
 
 // The Arrow at that row.
-pub fn arrow_act(q: Place, row: Words, switches: Switches, at: usize, late: bool) -> Act
+pub fn arrow_act(q: Place, row: Words, switches: Switches, at: usize, late: bool) -> Act<Place>
     requires { (row.kind ≡ 16) × (at < 16384) }
     ensures { (N : Names) (i : Rows) → Takes (switches_of switches) (place_of q).ctx (act N (switches_of switches) late (place_of q).ctx (place_of q).slot at row.kind row.attr row.name i) result }
 {

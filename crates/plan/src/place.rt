@@ -36,7 +36,7 @@ impl Place {
         };
         Spot {
             context,
-            slot: slot_in(code),
+            slot: Slot::from(code % 8),
         }
     }
 
@@ -45,7 +45,7 @@ impl Place {
     pub fn slot(self) -> Slot
         ensures { slot_number result ≡ (place_of self).slot }
     {
-        slot_in(self.code)
+        Slot::from(self.code % 8)
     }
 
     // Its frame of `this`.
@@ -80,22 +80,6 @@ impl Place {
         Place {
             code: 8 * (self.code / 8),
         }
-    }
-}
-
-// The slot whose number stands in the lowest three bits.
-fn slot_in(code: usize) -> Slot
-    ensures { slot_number result ≡ code % 8 }
-{
-    match code % 8 {
-        0 => Slot::Free,
-        1 => Slot::OfMethod,
-        2 => Slot::BodyOf,
-        3 => Slot::LateBody,
-        4 => Slot::Wrapped,
-        5 => Slot::OfTarget,
-        6 => Slot::Callee,
-        _ => Slot::Dropped,
     }
 }
 

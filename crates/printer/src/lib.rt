@@ -3,17 +3,14 @@
 
 #![tactic(auto)]
 
-ghost use Rattle.std.specs.Prelude.{◌≡◌, List, [], ◌∷◌, ◌++◌, ℕ, ◌+◌, ◌*◌, ◌/◌, ◌≤◌, ◌<◌, ◌^◌, length, get_or};
+ghost use Rattle.std.specs.Prelude.{◌≡◌, [], ◌∷◌, ◌++◌, ℕ, ◌+◌, ◌*◌, ◌/◌, ◌≤◌, ◌<◌, ◌^◌, length, get_or};
 ghost use Rattle.names.specs.Words.{words};
 ghost use Rattle.decimal.specs.Decimal.{decimal, Wrote};
 ghost use Rattle.printer.specs.Print.{line, row_at, lines_of, printed};
 
 use decimal::{put_byte, put_bytes, put_number};
+use fields::{NEWLINE, SPACE};
 use names::words::cell;
-
-const SPACE: u8 = 32;
-
-const NEWLINE: u8 = 10;
 
 // A number and the byte after it.
 fn put_field(out: &mut [u8], at: usize, n: u32, b: u8) -> usize

@@ -17,6 +17,7 @@ pub fn read_full<R: Read>(input: &mut R, buf: &mut [u8]) -> io::Result<usize>
     ensures ended { IfOk result (λ n. n < length buf.new → IsAtEnd (R.remaining input.new)) }
 {
     let mut done = 0;
+    // A loop by hand: how many bytes come is known once they are read, so that no range or `chunks` has these steps: no plainer.
     while done < buf.len() {
         let n = input.read(&mut buf[done..])?;
         if n == 0 {

@@ -12,7 +12,6 @@ use Rattle.forest.proofs.Accepting.{length-flat}
 use Rattle.rows.proofs.Soundness.{sound, words_long}
 use Rattle.spelling.specs.Spelling.{GivenNames}
 use Rattle.refusals.specs.Given.{GivenRows}
-use Rattle.std.specs.Prelude.{Ok, Err, Result}
 
 -- row 0 of a whole table ends at the row count
 root_end : (names : ℕ) (f : Rows) (n : ℕ) → Table names f → length (flat 0 f) ≡ 4 * n → end_at (flat 0 f) 0 ≡ n

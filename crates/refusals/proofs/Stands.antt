@@ -9,7 +9,9 @@ use native.Mathlib.Omega.{arith}
 use borrow.Author.Tests.{ne_eqb}
 use denote.Enum.Declared.{tag_of}
 use mir.Val.{bool_byte as from_bool}
-use Rattle.grammar.specs.Kinds.{Program, Call, Function, Field, StaticBlock}
+use Rattle.grammar.specs.Kinds.{Program, Call, Function, Field, Method, Property, StaticBlock}
+use Rattle.grammar.specs.Codes.{listed}
+use Rattle.grammar.proofs.Listed.{test_listed}
 use Rattle.names.specs.Words.{words, kind_at, attr_at}
 use Rattle.forest.specs.Told.{told_by, first_then}
 use Rattle.names.specs.First.{first}
@@ -64,9 +66,19 @@ owner_cases false false false false false B A M o = refl
 
 -- the owner as the code finds it
 pub owner_is : (first : Bool) (v k a : ℕ) →
-    owner_for first v k a ≡ keeper_no (cond (eqb k Program) plain (cond (eqb k Function) (cond (bit 4 a) builder (cond (bit 4 v) method plain)) (cond (eqb k StaticBlock) member (cond (eqb k Field && not (first && bit 1 a)) member (keeper_at (v % 4))))))
+    owner_for first v k a ≡ keeper_no (cond (eqb k Program) plain
+    (cond (eqb k Function) (cond (bit 4 a) builder (cond (bit 4 v) method plain))
+    (cond (eqb k StaticBlock) member (cond (eqb k Field && not (first && bit 1 a)) member (keeper_at (v % 4))))))
 unfolding owner_for stand_at
 owner_is first v k a = ap keeper_no (owner_cases first (eqb k Program) (eqb k Function) (eqb k StaticBlock) (eqb k Field) (bit 1 a) (bit 4 a) (bit 4 v) (keeper_at (v % 4)))
+
+-- a row's word may be none of the list
+pub owner_listed : (first : Bool) (v k a : ℕ) → owner_for first v (listed k) a ≡ owner_for first v k a
+owner_listed first v k a =
+    owner_is first v (listed k) a ∙ rw (test_listed k Program refl, test_listed k Function refl, test_listed k StaticBlock refl, test_listed k Field refl) (sym (owner_is first v k a))
+
+pub holder_listed : (k a : ℕ) → method_holder (listed k) a ≡ method_holder k a
+holder_listed k a = rw (test_listed k Method refl, test_listed k Property refl)
 
 and-true : (x : Bool) → x ≡ (x && true)
 and-true true = refl

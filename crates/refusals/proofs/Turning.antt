@@ -8,6 +8,7 @@ use lib.ListN.{length}
 use Rattle.std.specs.Prelude.{Ok, Err, Option, Some, None}
 use Rattle.names.specs.Words.{words, kind_at, name_at, rows_in}
 use Rattle.names.specs.First.{first}
+use Rattle.names.specs.Answered.{unless_found}
 use Rattle.forest.specs.Forest.{Rows, Rows.none, Rows.node, size, rows_at, table}
 use Rattle.rows.specs.Refusals.{checked, Sound}
 use Rattle.forest.proofs.Accepting.{length-flat}
@@ -22,9 +23,13 @@ use Rattle.steps.specs.Accepted.{Accepted}
 use Rattle.steps.proofs.Seeks.{by_rows, seek_below}
 use Rattle.refusals.specs.Given.{GivenRows}
 use Rattle.refusals.specs.Hits.{field_rule}
-use Rattle.refusals.specs.Refused.{Answer, number_of, place_for, unless_super, unless_field, unless_named, turned_away, binds_arguments, name_rule}
+use Rattle.refusals.specs.Refused.{Answer, number_of, place_for, turned_away, binds_arguments, name_rule}
 use Rattle.refusals.specs.declared.Refused.{Refused}
 use Rattle.refusals.specs.declared.Refused.TheVariants.{SuperNotAllowed, FieldHolds, NamedArguments}
+
+-- the three refusals in their order
+abbrev pub in_turn : (f6 f7 f8 : Option ℕ) → Answer
+in_turn f6 f7 f8 = unless_found SuperNotAllowed f6 (unless_found FieldHolds f7 (unless_found NamedArguments f8 (Ok tt)))
 
 -- the first of the rows that binds `arguments` is the forest's
 pub eight_rows : (rows names text : List ℕ) (n : ℕ) → GivenRows rows n →
@@ -42,7 +47,7 @@ module _ (names text : List ℕ) (t : Rows) where
   -- the answer by the three passes: `only` says AsyncOnly
   abbrev pub answer : (only : Bool) → Answer
   answer only =
-      unless_super (seek sixes outer outer 0 t) (unless_field (seek (field_rule only) tt tt 0 t) (unless_named (cond only (seek (name_rule names text) tt tt 0 t) None) (Ok tt)))
+      in_turn (seek sixes outer outer 0 t) (seek (field_rule only) tt tt 0 t) (cond only (seek (name_rule names text) tt tt 0 t) None)
 
   on : (w : Switches) (e : Bool) → enabled w ≡ e → async_only w ≡ not e → turned_away (names_of names text) w t ≡ answer (not e)
   unfolding turned_away six seven eight sevens eights field_rule name_rule named_arguments
@@ -65,16 +70,16 @@ module _ (names text : List ℕ) (t : Rows) where
 
     pub turned_on : (only : Bool) (f6 f7 f8 : Option ℕ) → is_disabled m ≡ false → only ≡ is_async_only m
         → seek sixes outer outer 0 t ≡ f6 → seek (field_rule only) tt tt 0 t ≡ f7 → cond only (seek (name_rule names text) tt tt 0 t) None ≡ f8
-        → unless_super f6 (unless_field f7 (unless_named f8 (Ok tt))) ≡ turned_away (names_of names text) w t
+        → in_turn f6 f7 f8 ≡ turned_away (names_of names text) w t
     turned_on only f6 f7 f8 d o q6 q7 q8 = sym (by_mode m w q ∙ rw (d, ← o, q6, q7, q8))
 
     -- 8 is looked for in AsyncOnly alone
     pub turned_plain : (only : Bool) (f6 f7 : Option ℕ) → is_disabled m ≡ false → only ≡ is_async_only m → seek sixes outer outer 0 t ≡ f6 → seek (field_rule only) tt tt 0 t ≡ f7 → only ≡ false
-        → unless_super f6 (unless_field f7 (Ok tt)) ≡ turned_away (names_of names text) w t
+        → in_turn f6 f7 None ≡ turned_away (names_of names text) w t
     turned_plain only f6 f7 d o q6 q7 z = turned_on only f6 f7 None d o q6 q7 (rw z)
 
     pub turned-only : (only : Bool) (f6 f7 f8 : Option ℕ) → is_disabled m ≡ false → only ≡ is_async_only m → seek sixes outer outer 0 t ≡ f6 → seek (field_rule only) tt tt 0 t ≡ f7 → only ≡ true → seek (name_rule names text) tt tt 0 t ≡ f8
-        → unless_super f6 (unless_field f7 (unless_named f8 (Ok tt))) ≡ turned_away (names_of names text) w t
+        → in_turn f6 f7 f8 ≡ turned_away (names_of names text) w t
     turned-only only f6 f7 f8 d o q6 q7 z q8 = turned_on only f6 f7 f8 d o q6 q7 (rw z q8)
 
 -- what the answer is to the outcome
@@ -82,13 +87,13 @@ abbrev pub unless_turned : Answer → Outcome → Outcome
 unless_turned (Ok u) other = other
 unless_turned (Err r) other = refused (number_of r) (place_for r)
 
-in_order : (f6 f7 f8 : Option ℕ) (other : Outcome) → unless_turned (unless_super f6 (unless_field f7 (unless_named f8 (Ok tt)))) other ≡ unless_at 6 f6 (unless_at 7 f7 (unless_at 8 f8 other))
+in_order : (f6 f7 f8 : Option ℕ) (other : Outcome) → unless_turned (in_turn f6 f7 f8) other ≡ unless_at 6 f6 (unless_at 7 f7 (unless_at 8 f8 other))
 in_order (Some r) f7 f8 other = refl
 in_order None (Some r) f8 other = refl
 in_order None None (Some r) other = refl
 in_order None None None other = refl
 
-none_of : (f6 f7 f8 : Option ℕ) → unless_super f6 (unless_field f7 (unless_named f8 (Ok tt))) ≡ Ok tt → (f6 ≡ None) × ((f7 ≡ None) × (f8 ≡ None))
+none_of : (f6 f7 f8 : Option ℕ) → in_turn f6 f7 f8 ≡ Ok tt → (f6 ≡ None) × ((f7 ≡ None) × (f8 ≡ None))
 none_of (Some r) f7 f8 h = absurd (cc)
 none_of None (Some r) f8 h = absurd (cc)
 none_of None None (Some r) h = absurd (cc)
@@ -116,7 +121,7 @@ unless-off w f r = go (enabled w || async_only w)
     go true h = h
     go false h = absurd (cc)
 
-place_cases : (f6 f7 f8 : Option ℕ) (n : ℕ) (t : Refused) → unless_super f6 (unless_field f7 (unless_named f8 (Ok tt))) ≡ Err t → ((r : ℕ) → f6 ≡ Some r → r ≤ n) → ((r : ℕ) → f7 ≡ Some r → r ≤ n) → ((r : ℕ) → f8 ≡ Some r → r ≤ n) → place_for t ≤ n
+place_cases : (f6 f7 f8 : Option ℕ) (n : ℕ) (t : Refused) → in_turn f6 f7 f8 ≡ Err t → ((r : ℕ) → f6 ≡ Some r → r ≤ n) → ((r : ℕ) → f7 ≡ Some r → r ≤ n) → ((r : ℕ) → f8 ≡ Some r → r ≤ n) → place_for t ≤ n
 place_cases (Some r) f7 f8 n t q h6 h7 h8 = let e : SuperNotAllowed r ≡ t = cc in rw (← e) (h6 r refl)
 place_cases None (Some r) f8 n t q h6 h7 h8 = let e : FieldHolds r ≡ t = cc in rw (← e) (h7 r refl)
 place_cases None None (Some r) n t q h6 h7 h8 = let e : NamedArguments r ≡ t = cc in rw (← e) (h8 r refl)

@@ -16,7 +16,7 @@ use Rattle.names.specs.Words.{words, kind_at, attr_at, name_at, end_at}
 use Rattle.names.specs.First.{first}
 use Rattle.forest.specs.Nested.{Nested}
 use Rattle.forest.specs.Forest.{rows_at}
-use Rattle.names.proofs.Bools.{lt_or_ge}
+use Rattle.names.proofs.Bools.{lt_or_ge, cond-le}
 use Rattle.rows.proofs.Soundness.{words_long}
 use Rattle.steps.specs.Mode.{bit}
 use Rattle.steps.specs.Refusals.{seek, holds, value_of}
@@ -35,14 +35,10 @@ module _ (ws : List ℕ) (b : Bool) where
   hit-low zero i = omega arith
   hit-low (suc f) i = low-at (hit b (kind_at ws i)) i (next_hit ws b f (i + 1)) (hit-low f (i + 1))
 
-  high-at : (x : Bool) (i m n : ℕ) → i ≤ n → m ≤ n → cond x i m ≤ n
-  high-at true i m n h l = h
-  high-at false i m n h l = l
-
   pub hit-high : (f i : ℕ) → next_hit ws b f i ≤ i + f
   unfolding next_hit
   hit-high zero i = omega arith
-  hit-high (suc f) i = let l = hit-high f (i + 1) in high-at (hit b (kind_at ws i)) i (next_hit ws b f (i + 1)) (i + suc f) (omega arith) (omega arith)
+  hit-high (suc f) i = let l = hit-high f (i + 1) in cond-le (hit b (kind_at ws i)) i (next_hit ws b f (i + 1)) (i + suc f) (omega arith) (omega arith)
 
   any_at : (x : Bool) (i m r : ℕ) (rest : Bool) → rest ≡ ltb r (i + suc m) → (x || rest) ≡ ltb (cond x i r) (i + suc m)
   any_at true i m r rest h = sym (lt-ltb i (i + suc m) (omega arith))

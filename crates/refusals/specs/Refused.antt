@@ -1,6 +1,7 @@
 -- Refusals 6, 7 and 8 together, in the order in which they are tested. Assumes nothing.
 use Rattle.std.specs.Prelude.{ℕ, Bool, ◌&&◌, ◌||◌, List, eqb, Result, Ok, Err, Option, Some, None}
 use Rattle.grammar.specs.Kinds.{Declarator, Function, Class}
+use Rattle.names.specs.Answered.{unless_found}
 use Rattle.names.specs.Names.{is_arguments}
 use Rattle.forest.specs.Forest.{Rows}
 use Rattle.steps.specs.Mode.{Switches}
@@ -25,22 +26,9 @@ place_for (NamedArguments row) = row
 abbrev pub Answer : Type 0
 Answer = Result (Unit {0}) Refused
 
--- 6, 7 and 8, each with what is answered where it is not given
-abbrev pub unless_super : Option ℕ → Answer → Answer
-unless_super (Some row) other = Err (SuperNotAllowed row)
-unless_super None other = other
-
-abbrev pub unless_field : Option ℕ → Answer → Answer
-unless_field (Some row) other = Err (FieldHolds row)
-unless_field None other = other
-
-abbrev pub unless_named : Option ℕ → Answer → Answer
-unless_named (Some row) other = Err (NamedArguments row)
-unless_named None other = other
-
 -- "Tested in the order .. 6, 7, 8, .. each over the whole table before the next."
 unfoldable pub turned_away : Names → Switches → Rows → Answer
-turned_away N w t = unless_super (six w t) (unless_field (seven w t) (unless_named (eight N w t) (Ok tt)))
+turned_away N w t = unless_found SuperNotAllowed (six w t) (unless_found FieldHolds (seven w t) (unless_found NamedArguments (eight N w t) (Ok tt)))
 
 -- "a Declarator, Function or Class"
 abbrev pub binds : ℕ → Bool

@@ -4,16 +4,16 @@ ghost use Rattle.std.specs.Prelude.{◌≡◌, ◌+◌, ◌*◌, ◌<◌, ◌≤
 ghost use Rattle.names.specs.Words.{words, kind_at, name_at, end_at};
 ghost use Rattle.forest.specs.Forest.{rows_at};
 ghost use Rattle.steps.specs.Refusals.{seek, sixes, outer};
-ghost use Rattle.spelling.specs.Spelling.{GivenNames};
 ghost use Rattle.refusals.specs.Given.{GivenRows, Clear};
-ghost use Rattle.refusals.specs.Hits.{value_from, holds_at, field_rule};
+ghost use Rattle.refusals.specs.Hits.{value_from, hit, holds_at, field_rule};
 ghost use Rattle.refusals.specs.Refused.{binds_arguments, name_rule};
 
-use crate::standing::{has, stand, super_bad};
+use crate::standing::{stand, super_bad};
 use forest::told::tell;
-use grammar::kinds::{ARROW, CLASS, DECLARATOR, FIELD, FUNCTION, SUPER};
+use grammar::kind::Kind;
 use names::words::cell;
-use spelling::is_arguments;
+use spelling::Names;
+use steps::has_bit;
 
 // The first Super that its owner does not allow, with an array of zeros that has room for n entries.
 fn super_in(rows: &[u8], n: usize, stands: &mut [u16]) -> Option<usize>
@@ -61,10 +61,10 @@ fn value_from(rows: &[u8], i: usize, a: usize, e: usize) -> usize
     requires { (i < e) × ((e ≤ 16384) × (16 * e ≤ length rows.now)) }
     ensures { result ≡ value_from (words rows.now) i a e }
 {
-    if !has(a, 4) {
+    if !has_bit(4, a) {
         return e;
     }
-    if !has(a, 1) {
+    if !has_bit(1, a) {
         return i + 1;
     }
     if i + 1 < e {
@@ -74,17 +74,31 @@ fn value_from(rows: &[u8], i: usize, a: usize, e: usize) -> usize
 }
 
 // Whether row i is a Field whose value reaches the next hit from its first row on.
+#[tactic(auto, unfolding(crate::specs::Hits::holds_at))]
 fn field_holds(rows: &[u8], next: &[u16], i: usize) -> bool
     requires i_bound { (i < end_at (words rows.now) i) × ((end_at (words rows.now) i ≤ 16384) × (16 * end_at (words rows.now) i ≤ length rows.now)) }
     requires i_in_bounds { end_at (words rows.now) i ≤ length next.now }
     ensures { result ≡ holds_at (words rows.now) (λ j. get_or next.now j 0) i }
 {
-    if cell(rows, 4 * i) != FIELD {
-        return false;
+    match Kind::from(cell(rows, 4 * i)) {
+        Kind::Field => {
+            let e = cell(rows, 4 * i + 3);
+            let start = value_from(rows, i, cell(rows, 4 * i + 1), e);
+            start < e && (next[start] as usize) < e
+        }
+        _ => false,
     }
-    let e = cell(rows, 4 * i + 3);
-    let start = value_from(rows, i, cell(rows, 4 * i + 1), e);
-    start < e && (next[start] as usize) < e
+}
+
+// Whether a Field whose value holds a row of that kind is refused.
+fn is_hit(kind: usize, arrows: bool) -> bool
+    ensures { result ≡ hit arrows kind }
+{
+    match Kind::from(kind) {
+        Kind::Super => true,
+        Kind::Arrow => arrows,
+        _ => false,
+    }
 }
 
 // The first Field whose value holds a Super, or with `arrows` an Arrow, with an array that has room
@@ -98,8 +112,7 @@ fn field_in(rows: &[u8], n: usize, arrows: bool, next: &mut [u16]) -> Option<usi
     let mut hit = n;
     let mut found = None;
     for i in (0..n).rev() {
-        let k = cell(rows, 4 * i);
-        if (k == SUPER) | (arrows & (k == ARROW)) {
+        if is_hit(cell(rows, 4 * i), arrows) {
             hit = i;
         }
         next[i] = hit as u16;
@@ -132,26 +145,25 @@ pub fn first_field(rows: &[u8], n: usize, arrows: bool) -> Option<usize>
 }
 
 // Whether row i is a Declarator, Function or Class named `arguments`.
-fn binds_arguments(rows: &[u8], names: &[u8], text: &[u8], i: usize) -> bool
-    requires i_bound { (i < 16384) × (16 * i + 16 ≤ length rows.now) }
-    requires given_names { GivenNames names.now text.now }
-    ensures { result ≡ binds_arguments names.now text.now (kind_at (words rows.now) i) (name_at (words rows.now) i) }
+fn binds_arguments(rows: &[u8], names: &Names<'_>, i: usize) -> bool
+    requires { (i < 16384) × (16 * i + 16 ≤ length rows.now) }
+    ensures { result ≡ binds_arguments names.now.pairs.now names.now.text.now (kind_at (words rows.now) i) (name_at (words rows.now) i) }
 {
-    let k = cell(rows, 4 * i);
-    if (k == DECLARATOR) | (k == FUNCTION) | (k == CLASS) {
-        return is_arguments(names, text, cell(rows, 4 * i + 2));
+    match Kind::from(cell(rows, 4 * i)) {
+        Kind::Declarator | Kind::Function | Kind::Class => {
+            names.is_arguments(cell(rows, 4 * i + 2))
+        }
+        _ => false,
     }
-    false
 }
 
 // Refusal 8, in AsyncOnly: the first Declarator, Function or Class named `arguments`.
-pub fn first_arguments(rows: &[u8], names: &[u8], text: &[u8], n: usize) -> Option<usize>
-    requires given_rows { GivenRows rows.now n }
-    requires given_names { GivenNames names.now text.now }
-    ensures { result ≡ seek (name_rule names.now text.now) tt tt 0 (rows_at (words rows.now) 0 n) }
+pub fn first_arguments(rows: &[u8], names: &Names<'_>, n: usize) -> Option<usize>
+    requires { GivenRows rows.now n }
+    ensures { result ≡ seek (name_rule names.now.pairs.now names.now.text.now) tt tt 0 (rows_at (words rows.now) 0 n) }
 {
     for i in 0..n {
-        if binds_arguments(rows, names, text, i) {
+        if binds_arguments(rows, names, i) {
             return Some(i);
         }
     }

@@ -10,11 +10,11 @@ ghost use Rattle.names.specs.Words.{rows_in};
 ghost use Rattle.forest.specs.Forest.{table};
 ghost use Rattle.steps.specs.Mode.{Switches, mode_of};
 ghost use Rattle.steps.specs.Outcome.{names_of};
-ghost use Rattle.spelling.specs.Spelling.{GivenNames};
 ghost use Rattle.refusals.specs.Given.{GivenRows};
 ghost use Rattle.refusals.specs.Refused.{number_of, place_for, turned_away};
 
 use firsts::{first_arguments, first_field, first_super};
+use spelling::Names;
 use steps::ArrowFunctionConverter;
 
 // A refusal of a table that is sound.
@@ -53,12 +53,11 @@ impl Refused {
 // answers Sound: `given` of proofs/Giving.antt makes what is required of that.
 pub fn refusal(
     rows: &[u8],
-    names: &[u8],
-    text: &[u8],
+    names: &Names<'_>,
     converter: ArrowFunctionConverter,
 ) -> Result<(), Refused>
-    requires { GivenRows rows.now (rows_in rows.now) × GivenNames names.now text.now }
-    ensures { (w : Switches) → converter.mode ≡ mode_of w → result ≡ turned_away (names_of names.now text.now) w (table rows.now) }
+    requires { GivenRows rows.now (rows_in rows.now) }
+    ensures { (w : Switches) → converter.mode ≡ mode_of w → result ≡ turned_away (names_of names.now.pairs.now names.now.text.now) w (table rows.now) }
 {
     if converter.is_disabled() {
         return Ok(());
@@ -74,7 +73,7 @@ pub fn refusal(
     if !only {
         return Ok(());
     }
-    if let Some(row) = first_arguments(rows, names, text, n) {
+    if let Some(row) = first_arguments(rows, names, n) {
         return Err(Refused::NamedArguments { row });
     }
     Ok(())

@@ -2,12 +2,14 @@
 // the last child of a Method or of a Property with bit 1, 8 more for the first child of a Call. It stays
 // one u16, for the stack: an array of 16,384 structs would be larger, and the laws of what rows are told
 // (`told_by` of forest) are over numbers.
-ghost use Rattle.std.specs.Prelude.{◌≡◌, ℕ, ◌+◌, ◌*◌, ◌%◌, ◌<◌, ◌≤◌, length, get_or};
+ghost use Rattle.std.specs.Prelude.{◌≡◌, cond, ℕ, ◌+◌, ◌*◌, ◌%◌, ◌<◌, ◌≤◌, length, get_or};
+ghost use Rattle.grammar.specs.Codes.{kind_number};
 ghost use Rattle.steps.specs.Mode.{bit};
-ghost use Rattle.steps.specs.Refusals.{allows};
+ghost use Rattle.steps.specs.Refusals.{allows, method_holder, Keeper.plain, Keeper.builder, Keeper.method};
 ghost use Rattle.refusals.specs.Standing.{keeper_of, keeper_no, keeper_at, owner_for, stand_for, super_bad};
 
-use grammar::kinds::{CALL, FIELD, FUNCTION, METHOD, PROGRAM, PROPERTY, STATIC_BLOCK, SUPER};
+use grammar::kind::Kind;
+use steps::has_bit;
 
 // The sort of an owner.
 #[derive(Clone, Copy)]
@@ -50,53 +52,63 @@ impl Sort {
     }
 }
 
-// Whether the bit of value j is set.
-pub fn has(a: usize, j: usize) -> bool
-    requires { 0 < j }
-    ensures { result ≡ bit j a }
+// The sort of a Function of that attr that was told v.
+fn function_sort(v: u16, a: usize) -> Sort
+    ensures { keeper_of result ≡ cond (bit 4 a) builder (cond (bit 4 v) method plain) }
 {
-    a / j % 2 == 1
+    if has_bit(4, a) {
+        return Sort::Builder;
+    }
+    if has_bit(4, v as usize) {
+        return Sort::MethodLike;
+    }
+    Sort::Plain
 }
 
 // The owner of the first child, or of the later ones, of a row that was told v. A Field's key has
 // the Field's own.
-fn owner(first: bool, v: u16, k: usize, a: usize) -> Sort
-    ensures { keeper_no (keeper_of result) ≡ owner_for first v k a }
+#[tactic(auto, unfolding(crate::specs::Standing::owner_for, crate::specs::Standing::stand_at, crate::specs::Standing::keeper_no))]
+fn owner(first: bool, v: u16, kind: Kind, a: usize) -> Sort
+    ensures { keeper_no (keeper_of result) ≡ owner_for first v (kind_number kind) a }
 {
-    if k == PROGRAM {
-        return Sort::Plain;
+    let keyed = first & has_bit(1, a);
+    match kind {
+        Kind::Program => Sort::Plain,
+        Kind::Function => function_sort(v, a),
+        Kind::StaticBlock => Sort::Member,
+        Kind::Field if !keyed => Sort::Member,
+        _ => Sort::told(v),
     }
-    if k == FUNCTION {
-        if has(a, 4) {
-            return Sort::Builder;
-        }
-        if has(v as usize, 4) {
-            return Sort::MethodLike;
-        }
-        return Sort::Plain;
+}
+
+// Whether the last child of a row of that kind and attr is method-like.
+fn holds_method(kind: Kind, a: usize) -> bool
+    ensures { result ≡ method_holder (kind_number kind) a }
+{
+    match kind {
+        Kind::Method => true,
+        Kind::Property => has_bit(2, a),
+        _ => false,
     }
-    if k == STATIC_BLOCK {
-        return Sort::Member;
-    }
-    if (k == FIELD) & !(first & has(a, 1)) {
-        return Sort::Member;
-    }
-    Sort::told(v)
 }
 
 // What the first child, or a later one, of a row that was told v is told.
 pub fn stand(first: bool, v: u16, k: usize, a: usize) -> u16
     ensures { result ≡ stand_for first v k a }
 {
-    let holder = (k == METHOD) | ((k == PROPERTY) & has(a, 2));
-    let last = holder & !(first & has(a, 1));
-    let called = first & (k == CALL);
-    owner(first, v, k, a) as u16 + 4 * u16::from(last) + 8 * u16::from(called)
+    let kind = Kind::from(k);
+    let last = holds_method(kind, a) & !(first & has_bit(1, a));
+    let called = first & (kind == Kind::Call);
+    owner(first, v, kind, a) as u16 + 4 * u16::from(last) + 8 * u16::from(called)
 }
 
 // A Super that its owner does not allow.
+#[tactic(auto, unfolding(crate::specs::Standing::super_bad, crate::specs::Standing::stand_at))]
 pub fn super_bad(v: u16, k: usize) -> bool
     ensures { result ≡ super_bad v k }
 {
-    (k == SUPER) & !Sort::told(v).allows(has(v as usize, 8))
+    match Kind::from(k) {
+        Kind::Super => !Sort::told(v).allows(has_bit(8, v as usize)),
+        _ => false,
+    }
 }

@@ -3,8 +3,6 @@
 
 #![tactic(auto)]
 
-ghost use Rattle.std.specs.Prelude.{◌≤◌, length, IfOk};
-
 use rows::{Limits, Unsound};
 use std::io;
 use vectors::cases::{Cases, Input};

@@ -3,8 +3,6 @@
 
 #![tactic(auto)]
 
-ghost use Rattle.std.specs.Prelude.{◌≤◌, length, IfOk};
-
 use std::io;
 use thawcopper::Spelled;
 use vectors::cases::{Cases, Input};

@@ -3,7 +3,7 @@ use Rattle.std.specs.Prelude.{Option, Some, None, Err}
 use mathlib.Core.Path.{◌≡◌, refl, sym, subst, ◌∙◌}
 use mathlib.Core.Bool.{Bool, true, false, cond, ◌&&◌, ◌||◌, not}
 use mathlib.Core.List.{List}
-use mathlib.Core.Logic.{◌⊎◌, inl, inr, ⊎_elim}
+use mathlib.Core.Logic.{⊎_elim}
 use Prim.Native.Nat.{ℕ, zero, suc, ◌+◌, ◌<◌, ◌≤◌}
 use native.Mathlib.Omega.{arith}
 use borrow.Author.Tests.{ltb-true, leb-true, eqb-true}
@@ -15,14 +15,17 @@ use Rattle.grammar.specs.Grammar.{made_row, names_one, name_ok}
 use Rattle.forest.specs.Faults.{told, or_else, first_fault}
 use Rattle.forest.specs.declared.Fault.{Fault}
 use Rattle.forest.specs.Told.{fault_at, first_deep, lowest_from, lowest_fault}
+use Rattle.names.specs.Answered.{unless_found}
 use Rattle.names.specs.Names.{bad_name, first_bad_name}
 use Rattle.rows.specs.Sound.{GoodSizes}
-use Rattle.rows.specs.Refusals.{place_for, limited, sizes_ok, first_made, unless_named, unless_fault, unless_deep, unless_made, checked, Checked, Sound}
+use Rattle.rows.specs.Refusals.{unsound_place, place_for, limited, sizes_ok, first_made, four, faulty, three, five, checked, Checked, Sound}
 use Rattle.names.proofs.Seeking.{first_below}
 use Rattle.forest.proofs.Descent.{first-lowest}
 use Rattle.rows.proofs.Ordering.{SizesOk, good-sizes}
-use Rattle.rows.specs.declared.Unsound.TheVariants.{Malformed}
+use Rattle.rows.specs.declared.Unsound.{Unsound}
+use Rattle.rows.specs.declared.Unsound.TheVariants.{Malformed, BadName, BadRow, TooDeep, MadeBinding}
 use Rattle.forest.specs.declared.BadRow.{BadRow as RowFault}
+use Rattle.names.proofs.Bools.{or_cases}
 
 below_cases : (F : Option Fault) (i k : ℕ) (later : Option RowFault) (bad : RowFault) → (later ≡ Some bad → bad.row < k) → i < k → or_else (told F i) later ≡ Some bad → bad.row < k
 below_cases (Some fault) i k later bad ih l h = let q : i ≡ bad.row = cc in omega arith
@@ -39,21 +42,10 @@ fault_below : (ws : List ℕ) (n names : ℕ) (bad : RowFault) → 0 < n → fir
 unfolding lowest_fault
 fault_below ws n names bad some h = let l : bad.row < 0 + n = lowest_below ws n names n 0 bad (sym (first-lowest ws n names some) ∙ h) in omega arith
 
-made-place : (m : Option ℕ) (n : ℕ) → ((r : ℕ) → m ≡ Some r → r < n) → place_for (unless_made m Sound) ≤ n
-made-place (Some r) n h = let l = h r refl in omega arith
-made-place None n h = omega arith
-
-deep-place : (d : Option ℕ) (c : Checked) (n : ℕ) → ((r : ℕ) → d ≡ Some r → r < n) → place_for c ≤ n → place_for (unless_deep d c) ≤ n
-deep-place (Some r) c n h k = let l = h r refl in omega arith
-deep-place None c n h k = k
-
-fault-place : (f : Option RowFault) (c : Checked) (n : ℕ) → ((bad : RowFault) → f ≡ Some bad → bad.row < n) → place_for c ≤ n → place_for (unless_fault f c) ≤ n
-fault-place (Some bad) c n h k = let l = h bad refl in omega arith
-fault-place None c n h k = k
-
-name-place : (f : Option ℕ) (c : Checked) (n : ℕ) → ((r : ℕ) → f ≡ Some r → r ≤ n) → place_for c ≤ n → place_for (unless_named f c) ≤ n
-name-place (Some r) c n h k = h r refl
-name-place None c n h k = k
+-- a refusal of what a test found, or a later answer, each with a place of at most n
+found-place : {A : Type 0} (refusal : A → Unsound) (found : Option A) (c : Checked) (n : ℕ) → ((a : A) → found ≡ Some a → unsound_place (refusal a) ≤ n) → place_for c ≤ n → place_for (unless_found refusal found c) ≤ n
+found-place refusal (Some a) c n h k = h a refl
+found-place refusal None c n h k = k
 
 -- the place of an answer is at most 16,384
 pub place-small : (row_limit depth_limit : ℕ) (rows names text : List ℕ) → place_for (checked row_limit depth_limit rows names text) ≤ 16384
@@ -61,26 +53,18 @@ unfolding checked first_bad_name first_deep first_made
 place-small row_limit depth_limit rows names text = go (sizes_ok (limited row_limit) (length rows) (length names) (length text)) refl
   where
     rest : Checked
-    rest =
-        unless_named (first_bad_name names text)
-        (unless_fault (first_fault (words rows) (rows_in rows) (names_in names))
-        (unless_deep (first_deep (words rows) (limited depth_limit) (rows_in rows))
-        (unless_made (first_made (words rows) (rows_in rows)) Sound)))
+    rest = four names text (faulty rows names (three depth_limit rows (five rows Sound)))
 
     go : (b : Bool) → SizesOk row_limit depth_limit rows names text b → place_for (cond b rest (Err Malformed)) ≤ 16384
     go false q = omega arith
     go true q =
         let g : GoodSizes row_limit rows names text = good-sizes row_limit depth_limit rows names text q in
-        name-place (first_bad_name names text) _ 16384 (λ r h. let l = first_below (bad_name names text) (names_in names) 1 r h in omega arith)
-        (fault-place (first_fault (words rows) (rows_in rows) (names_in names)) _ 16384 (λ bad h. let l = fault_below (words rows) (rows_in rows) (names_in names) bad g.some h in omega arith)
-        (deep-place (first_deep (words rows) (limited depth_limit) (rows_in rows)) _ 16384 (λ r h. let l = first_below _ (rows_in rows) 0 r h in omega arith)
-        (made-place (first_made (words rows) (rows_in rows)) 16384 (λ r h. let l = first_below _ (rows_in rows) 0 r h in omega arith))))
+        found-place BadName (first_bad_name names text) _ 16384 (λ r h. let l = first_below (bad_name names text) (names_in names) 1 r h in omega arith)
+        (found-place (λ (bad : RowFault). BadRow bad.fault bad.row) (first_fault (words rows) (rows_in rows) (names_in names)) _ 16384 (λ bad h. let l = fault_below (words rows) (rows_in rows) (names_in names) bad g.some h in omega arith)
+        (found-place TooDeep (first_deep (words rows) (limited depth_limit) (rows_in rows)) _ 16384 (λ r h. let l = first_below _ (rows_in rows) 0 r h in omega arith)
+        (found-place MadeBinding (first_made (words rows) (rows_in rows)) _ 16384 (λ r h. let l = first_below _ (rows_in rows) 0 r h in omega arith) (omega arith))))
 
 -- Names are in range: an Ident, Member or Declarator that is no row of a result names one of the names, and a Function or Class has one of them or 0.
-or_cases : (a b : Bool) → (a || b) ≡ true → (a ≡ true) ⊎ (b ≡ true)
-or_cases true b h = inl refl
-or_cases false b h = inr h
-
 named_of : (m p q : Bool) → m ≡ false → (m || (p && q) || false || false || false) ≡ true → (p ≡ true) × (q ≡ true)
 named_of false true true a h = (refl, refl)
 named_of false true false a h = absurd (let z : ◌≡◌ {A = ℕ} 0 1 = cc in omega arith)

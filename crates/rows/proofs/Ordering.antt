@@ -10,15 +10,16 @@ use lib.ListN.{length}
 use lib.Dec.{eqb, ltb, leb}
 use Rattle.names.specs.Words.{words, end_at, rows_in, names_in}
 use Rattle.names.specs.Names.{first_bad_name}
+use Rattle.names.specs.Answered.{unless_found}
 use Rattle.forest.specs.Faults.{first_fault}
 use Rattle.forest.specs.Told.{first_deep}
 use Rattle.rows.specs.Sound.{GoodSizes}
-use Rattle.rows.specs.Refusals.{limited, sizes_ok, first_made, unless_named, unless_fault, unless_deep, unless_made, checked, Sound}
+use Rattle.rows.specs.Refusals.{limited, sizes_ok, first_made, checked, Sound}
 use Rattle.names.proofs.Bools.{and_left, and_right, and_both}
 use Rattle.names.proofs.GoodNames.{name-sizes}
 use Rattle.forest.proofs.Accepting.{none-faulty}
 use Rattle.forest.proofs.Descent.{first-lowest}
-use Rattle.rows.specs.declared.Unsound.TheVariants.{Malformed}
+use Rattle.rows.specs.declared.Unsound.TheVariants.{Malformed, BadName, BadRow, TooDeep, MadeBinding}
 use Rattle.forest.specs.declared.BadRow.{BadRow as RowFault}
 
 module _ (row_limit depth_limit : ℕ) (rows names text : List ℕ) where
@@ -28,7 +29,7 @@ module _ (row_limit depth_limit : ℕ) (rows names text : List ℕ) where
   pub is-checked : (bad made deep : Option ℕ) (fault : Option RowFault) → SizesOk true
       → first_bad_name names text ≡ bad → first_fault (words rows) (rows_in rows) (names_in names) ≡ fault
       → first_deep (words rows) (limited depth_limit) (rows_in rows) ≡ deep → first_made (words rows) (rows_in rows) ≡ made
-      → unless_named bad (unless_fault fault (unless_deep deep (unless_made made Sound))) ≡ checked row_limit depth_limit rows names text
+      → unless_found BadName bad (unless_found (λ (bad : RowFault). BadRow bad.fault bad.row) fault (unless_found TooDeep deep (unless_found MadeBinding made Sound))) ≡ checked row_limit depth_limit rows names text
   unfolding checked
   is-checked bad made deep fault s qn qf qd qm = rw (s, qn, qf, qd, qm)
 

@@ -8,6 +8,7 @@ use native.Mathlib.Omega.{arith}
 use borrow.Author.Tests.{ltb-false, le-ltb}
 use lib.ListN.{length}
 use Rattle.names.specs.Words.{words, rows_in, names_in}
+use Rattle.names.specs.Answered.{unless_found}
 use Rattle.names.specs.Names.{bad_name, first_bad_name, GoodName}
 use Rattle.grammar.specs.Grammar.{made_row}
 use Rattle.forest.specs.Forest.{Rows, size, flat, table, Table, DepthWithin, NoRow}
@@ -15,7 +16,7 @@ use Rattle.forest.specs.Nested.{Nested}
 use Rattle.forest.specs.Faults.{first_fault}
 use Rattle.forest.specs.Told.{depth_at, first_deep, lowest_fault}
 use Rattle.rows.specs.Sound.{GoodSizes, SoundTable}
-use Rattle.rows.specs.Refusals.{limited, sizes_ok, first_made, unless_named, unless_fault, unless_deep, unless_made, checked, Checked, Sound}
+use Rattle.rows.specs.Refusals.{limited, sizes_ok, first_made, checked, Checked, Sound}
 use Rattle.names.proofs.Seeking.{first-none, none_first}
 use Rattle.names.proofs.GoodNames.{good-name, name-good}
 use Rattle.forest.proofs.Nesting.{Fit}
@@ -24,7 +25,8 @@ use Rattle.forest.proofs.Completing.{complete}
 use Rattle.forest.proofs.Descent.{first-lowest}
 use Rattle.forest.proofs.Levels.{depth_within, within_depth, rows_no, no_rows}
 use Rattle.rows.proofs.Ordering.{SizesOk, is-checked, good-sizes, sizes-good}
-use Rattle.rows.specs.declared.Unsound.TheVariants.{Malformed}
+use Rattle.rows.specs.declared.Unsound.{Unsound}
+use Rattle.rows.specs.declared.Unsound.TheVariants.{Malformed, BadName, BadRow, TooDeep, MadeBinding}
 use Rattle.forest.specs.declared.BadRow.{BadRow as RowFault}
 
 pub words_long : (s : List ℕ) (n : ℕ) → length s ≡ 4 * n → length (words s) ≡ n
@@ -51,30 +53,19 @@ if_sized : (b : Bool) (c : Checked) → cond b c (Err Malformed) ≡ Sound → (
 if_sized true c h = (refl, h)
 if_sized false c h = never (cc)
 
-if_named : (f : Option ℕ) (c : Checked) → unless_named f c ≡ Sound → (f ≡ None) × (c ≡ Sound)
-if_named (Some k) c h = never (cc)
-if_named None c h = (refl, h)
-
-if_fine : (f : Option RowFault) (c : Checked) → unless_fault f c ≡ Sound → (f ≡ None) × (c ≡ Sound)
-if_fine (Some bad) c h = never (cc)
-if_fine None c h = (refl, h)
-
-if_shallow : (f : Option ℕ) (c : Checked) → unless_deep f c ≡ Sound → (f ≡ None) × (c ≡ Sound)
-if_shallow (Some k) c h = never (cc)
-if_shallow None c h = (refl, h)
-
-if_plain : (f : Option ℕ) (c : Checked) → unless_made f c ≡ Sound → (f ≡ None) × (c ≡ Sound)
-if_plain (Some k) c h = never (cc)
-if_plain None c h = (refl, h)
+-- where the answer is that the table is sound, a test found nothing
+if_none : {A : Type 0} (refusal : A → Unsound) (found : Option A) (c : Checked) → unless_found refusal found c ≡ Sound → (found ≡ None) × (c ≡ Sound)
+if_none refusal (Some bad) c h = never (cc)
+if_none refusal None c h = (refl, h)
 
 passed : (row_limit depth_limit : ℕ) (rows names text : List ℕ) → checked row_limit depth_limit rows names text ≡ Sound → Passed row_limit depth_limit rows names text
 unfolding checked
 passed row_limit depth_limit rows names text h =
     let h1 = if_sized (sizes_ok (limited row_limit) (length rows) (length names) (length text)) _ h in
-    let h4 = if_named (first_bad_name names text) _ h1.1 in
-    let h2 = if_fine (first_fault (words rows) (rows_in rows) (names_in names)) _ h4.1 in
-    let h3 = if_shallow (first_deep (words rows) (limited depth_limit) (rows_in rows)) _ h2.1 in
-    let h5 = if_plain (first_made (words rows) (rows_in rows)) _ h3.1 in
+    let h4 = if_none BadName (first_bad_name names text) _ h1.1 in
+    let h2 = if_none (λ (bad : RowFault). BadRow bad.fault bad.row) (first_fault (words rows) (rows_in rows) (names_in names)) _ h4.1 in
+    let h3 = if_none TooDeep (first_deep (words rows) (limited depth_limit) (rows_in rows)) _ h2.1 in
+    let h5 = if_none MadeBinding (first_made (words rows) (rows_in rows)) _ h3.1 in
     record { sizes = h1.0; named = h4.0; fine = h2.0; shallow = h3.0; plain = h5.0 }
 
 -- a table without a fault, whatever its depth

@@ -1,7 +1,8 @@
 -- Refusals 1, 4, 21 to 25, 3 and 5 of section "Turned away", in the order in which they are tested. Assumes nothing.
-use Rattle.std.specs.Prelude.{ℕ, ◌*◌, ◌%◌, min, Bool, cond, ◌&&◌, List, length, eqb, ltb, leb, Option, Some, None, Result, Ok, Err, ⊤}
+use Rattle.std.specs.Prelude.{ℕ, ◌*◌, ◌%◌, min, Bool, cond, ◌&&◌, List, length, eqb, ltb, leb, Option, Result, Ok, Err, ⊤}
 use Rattle.names.specs.Words.{words, kind_at, attr_at, rows_in, names_in}
 use Rattle.names.specs.First.{first}
+use Rattle.names.specs.Answered.{unless_found, if_refused}
 use Rattle.names.specs.Names.{names_fit, first_bad_name}
 use Rattle.grammar.specs.Grammar.{made_row}
 use Rattle.forest.specs.Faults.{first_fault, fault_number}
@@ -33,14 +34,9 @@ Checked = Result ⊤ Unsound
 abbrev pub Sound : Checked
 Sound = Ok tt
 
--- the number and place of an answer: 0 where the table is sound
-abbrev pub number_of : Checked → ℕ
-number_of (Ok sound) = 0
-number_of (Err unsound) = unsound_number unsound
-
+-- the place of an answer: 0 where the table is sound
 abbrev pub place_for : Checked → ℕ
-place_for (Ok sound) = 0
-place_for (Err unsound) = unsound_place unsound
+place_for checked = if_refused unsound_place checked
 
 -- the most rows and the greatest depth that any caller can ask for: a larger limit counts as this one
 abbrev pub most_rows : ℕ
@@ -58,33 +54,17 @@ unfoldable pub first_made : List ℕ → ℕ → Option ℕ
 first_made ws n = first (λ i. made_row (kind_at ws i) (attr_at ws i)) n 0
 
 -- 4, 21 to 25, 3 and 5, each with what is answered where it is not given
-abbrev pub unless_named : Option ℕ → Checked → Checked
-unless_named (Some name) other = Err (BadName name)
-unless_named None other = other
-
-abbrev pub unless_fault : Option RowFault → Checked → Checked
-unless_fault (Some bad) other = Err (BadRow bad.fault bad.row)
-unless_fault None other = other
-
-abbrev pub unless_deep : Option ℕ → Checked → Checked
-unless_deep (Some row) other = Err (TooDeep row)
-unless_deep None other = other
-
-abbrev pub unless_made : Option ℕ → Checked → Checked
-unless_made (Some row) other = Err (MadeBinding row)
-unless_made None other = other
-
 abbrev pub four : (names text : List ℕ) → Checked → Checked
-four names text = unless_named (first_bad_name names text)
+four names text = unless_found BadName (first_bad_name names text)
 
 abbrev pub faulty : (rows names : List ℕ) → Checked → Checked
-faulty rows names = unless_fault (first_fault (words rows) (rows_in rows) (names_in names))
+faulty rows names = unless_found (λ bad. BadRow bad.fault bad.row) (first_fault (words rows) (rows_in rows) (names_in names))
 
 abbrev pub three : (depth_limit : ℕ) (rows : List ℕ) → Checked → Checked
-three depth_limit rows = unless_deep (first_deep (words rows) (limited depth_limit) (rows_in rows))
+three depth_limit rows = unless_found TooDeep (first_deep (words rows) (limited depth_limit) (rows_in rows))
 
 abbrev pub five : (rows : List ℕ) → Checked → Checked
-five rows = unless_made (first_made (words rows) (rows_in rows))
+five rows = unless_found MadeBinding (first_made (words rows) (rows_in rows))
 
 -- "Tested in the order 1, 4, 2, 3, 5, .. each over the whole table before the next." "21 to 25 stand where 2 stood in the order; 2 is retired."
 unfoldable pub checked : (row_limit depth_limit : ℕ) (rows names text : List ℕ) → Checked

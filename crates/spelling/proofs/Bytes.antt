@@ -7,15 +7,11 @@ use native.Mathlib.Omega.{arith}
 use lib.Dec.{eqb, ltb, leb}
 use lib.Pointwise.{pointwise}
 use lib.ListN.{length, take, drop, get_or}
-use lib.Seq.{drop-length}
 use borrow.Author.Tests.{ltb-true, leb-true, leb-false, ltb-false, ne_eqb}
 use Rattle.names.specs.Words.{words, names_in}
 use Rattle.names.specs.Names.{start_of, length_of, bytes_of, same_bytes}
 use Rattle.names.proofs.Bools.{and_left, and_right}
 use Rattle.spelling.specs.Spelling.{is_name}
-
-pub drop_all : (m : ℕ) (s : List ℕ) → length s ≡ m → drop m s ≡ []
-drop_all m s h = ap (λ (n : ℕ). drop n s) (sym h) ∙ drop-length s
 
 -- what the library's comparison of two slices says
 pub same-eq : (xs ys : List ℕ) → pointwise eqb xs ys ≡ same_bytes xs ys

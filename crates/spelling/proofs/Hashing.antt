@@ -12,7 +12,7 @@ use borrow.Author.Tests.{eqb-true, eq-eqb}
 use Rattle.names.specs.Names.{bytes_of, same_bytes, same_name}
 use Rattle.names.proofs.Bools.{and_left, and_right, and_both}
 use Rattle.spelling.specs.Hash.{hash_from, hash_of}
-use Rattle.spelling.proofs.Bytes.{drop_all}
+use Rattle.names.proofs.Laying.{drop_all}
 
 -- The loop, at byte i, with the number h of those before it.
 pub record Hashing (xs : List ℕ) (h i : ℕ) : Type 0 where

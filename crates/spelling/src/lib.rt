@@ -16,50 +16,12 @@ pub fn same_bytes(a: &[u8], b: &[u8]) -> bool
     a == b
 }
 
-fn is_name(names: &[u8], k: usize) -> bool
-    ensures { result ≡ is_name names.now k }
-{
-    (0 < k) & (k <= names.len() / 8)
-}
-
-// The bytes of name k. A number that is no name has none.
-pub fn bytes_of<'a>(names: &[u8], text: &'a [u8], k: usize) -> &'a [u8]
-    requires { GivenNames names.now text.now }
-    ensures { result.now ≡ bytes_of names.now text.now k }
-{
-    if !is_name(names, k) {
-        return &text[..0];
-    }
-    let pair = 2 * (k - 1);
-    let start = cell(names, pair);
-    let end = start + cell(names, pair + 1);
-    &text[start..end]
-}
-
-// Whether name k is spelled x.
-pub fn is_spelled(names: &[u8], text: &[u8], k: usize, x: &[u8]) -> bool
-    requires { GivenNames names.now text.now }
-    ensures { result ≡ same_bytes (bytes_of names.now text.now k) x.now }
-{
-    same_bytes(bytes_of(names, text, k), x)
-}
-
-// Whether name k is `arguments`.
-#[tactic(auto, unfolding(names::specs::Names::is_arguments, names::specs::Names::arguments_bytes))]
-pub fn is_arguments(names: &[u8], text: &[u8], k: usize) -> bool
-    requires { GivenNames names.now text.now }
-    ensures { result ≡ is_arguments names.now text.now k }
-{
-    is_spelled(names, text, k, b"arguments")
-}
-
-// Whether two names are the same. A number that is no name has no bytes.
-#[tactic(auto, unfolding(names::specs::Names::same_name))]
-pub fn same_name(names: &[u8], text: &[u8], j: usize, k: usize) -> bool
-    requires { GivenNames names.now text.now }
-    ensures { result ≡ same_name names.now text.now j k }
-{
-    same_bytes(bytes_of(names, text, j), bytes_of(names, text, k))
+// The names of a table: pairs of start and length, and the text in which each pair lies.
+#[derive(Clone, Copy)]
+pub struct Names<'a> {
+    pub pairs: &'a [u8],
+    pub text: &'a [u8],
+    pub ghost given: { GivenNames pairs.now text.now },
 }
 
 // A number of some bytes.
@@ -73,10 +35,53 @@ pub fn hash_bytes(a: &[u8]) -> usize
     h
 }
 
-// A number of the bytes of name k.
-pub fn hash(names: &[u8], text: &[u8], k: usize) -> usize
-    requires { GivenNames names.now text.now }
-    ensures { (result ≡ hash_of (bytes_of names.now text.now k)) × (result < 4294967296) }
-{
-    hash_bytes(bytes_of(names, text, k))
+impl<'a> Names<'a> {
+    fn is_name(&self, k: usize) -> bool
+        ensures { result ≡ is_name self.now.pairs.now k }
+    {
+        (0 < k) & (k <= self.pairs.len() / 8)
+    }
+
+    // The bytes of name k. A number that is no name has none.
+    pub fn bytes_of(&self, k: usize) -> &'a [u8]
+        ensures { result.now ≡ bytes_of self.now.pairs.now self.now.text.now k }
+    {
+        if !self.is_name(k) {
+            return &self.text[..0];
+        }
+        let pair = 2 * (k - 1);
+        let start = cell(self.pairs, pair);
+        let end = start + cell(self.pairs, pair + 1);
+        &self.text[start..end]
+    }
+
+    // Whether name k is spelled x.
+    pub fn is_spelled(&self, k: usize, x: &[u8]) -> bool
+        ensures { result ≡ same_bytes (bytes_of self.now.pairs.now self.now.text.now k) x.now }
+    {
+        same_bytes(self.bytes_of(k), x)
+    }
+
+    // Whether name k is `arguments`.
+    #[tactic(auto, unfolding(names::specs::Names::is_arguments, names::specs::Names::arguments_bytes))]
+    pub fn is_arguments(&self, k: usize) -> bool
+        ensures { result ≡ is_arguments self.now.pairs.now self.now.text.now k }
+    {
+        self.is_spelled(k, b"arguments")
+    }
+
+    // Whether two names are the same. A number that is no name has no bytes.
+    #[tactic(auto, unfolding(names::specs::Names::same_name))]
+    pub fn same_name(&self, j: usize, k: usize) -> bool
+        ensures { result ≡ same_name self.now.pairs.now self.now.text.now j k }
+    {
+        same_bytes(self.bytes_of(j), self.bytes_of(k))
+    }
+
+    // A number of the bytes of name k.
+    pub fn hash(&self, k: usize) -> usize
+        ensures { (result ≡ hash_of (bytes_of self.now.pairs.now self.now.text.now k)) × (result < 4294967296) }
+    {
+        hash_bytes(self.bytes_of(k))
+    }
 }

@@ -25,6 +25,7 @@ use Rattle.steps.specs.Owners.{OwnersKept, Calm, Home.at_top, home_one, home_mor
 use Rattle.steps.proofs.Records.{AllSound}
 use Rattle.steps.proofs.Shaped.{Rooted, rooted}
 use Rattle.steps.proofs.Bounds.{Bounded, bounded, kept}
+use Rattle.names.proofs.Bools.{and_parts}
 
 -- name 0 is the same as name 0
 pub same-zero : (N : Names) → same_as N 0 0 ≡ true
@@ -115,7 +116,7 @@ module _ (row_limit depth_limit : ℕ) (w : Switches) (rows names text : List �
       let h7 = unless_at_no 7 (seven w (table rows)) _ out bindings h6.1 in
       let h8 = unless_at_no 8 (eight (names_of names text) w (table rows)) _ out bindings h7.1 in
       let h9 = within_yes (leb (size R.rows) room.rows && leb (length R.bindings) room.bindings) _ _ out bindings h8.1 in
-      let fit = both (leb (size R.rows) room.rows) (leb (length R.bindings) room.bindings) h9.0 in
+      let fit = and_parts (leb (size R.rows) room.rows) (leb (length R.bindings) room.bindings) h9.0 in
       record {
         accepted = record { sound = h1.0; six-none = h6.0; seven-none = h7.0; eight-none = h8.0 };
         rows_are = h9.1.0;
@@ -123,10 +124,6 @@ module _ (row_limit depth_limit : ℕ) (w : Switches) (rows names text : List �
         rows_fit = leb-true _ _ fit.0;
         bindings-fit = leb-true _ _ fit.1;
       }
-    where
-      both : (x y : Bool) → (x && y) ≡ true → (x ≡ true) × (y ≡ true)
-      both true y h = (refl, h)
-      both false y h = absurd (let z : ◌≡◌ {A = ℕ} 0 1 = cc in omega arith)
 
   -- an accepted table is converted wherever there is room for its result, and refused by 9 nowhere else
   pub accepted_converts : Accepted row_limit depth_limit w rows names text → size R.rows ≤ room.rows → length R.bindings ≤ room.bindings

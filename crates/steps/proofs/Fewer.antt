@@ -19,6 +19,7 @@ use Rattle.steps.proofs.Records.{AllSound, Low, Named, one_known, more-known, me
 use Rattle.steps.proofs.Credit.{owed, phi, with, close_pay, fresh, own_of, weight, credit, meet-cost, leave-cost, costs, Placed, row_cost, eqb-eq, eqb_no}
 use Rattle.forest.specs.Forest.{Rows, Rows.none, Rows.node, size}
 use Rattle.steps.proofs.WellShaped.{OneBody, ParamsBody, TargetFirst, WfRow, Wf}
+use Rattle.names.proofs.Bools.{and_left, pick}
 
 -- What the counting needs of a well-formed row.
 unfoldable pub FitRow : Kind → Rows → Type 0
@@ -47,10 +48,6 @@ at P m k p d = go (eqb k m) refl
     go true e = subst P (sym (eqb-eq k m e)) p
     go false e = d e
 
-pass : (P : Kind → Type 0) (x : Bool) (K L : Kind) → P K → P L → P (cond x K L)
-pass P true K L p q = p
-pass P false K L p q = q
-
 module _ (a : ℕ) (i : Rows) where
   abbrev RowFits : ℕ → Type 0
   RowFits k = WfRow k a i → (eqb k 0 ≡ false) × FitRow (kind_of k) i
@@ -67,9 +64,9 @@ module _ (a : ℕ) (i : Rows) where
       (λ e17 h. (
         e0,
         rw (e15, e17)
-            (pass KindFits (eqb k 9) this _ tt (pass KindFits (eqb k 10) super _ tt (pass KindFits (eqb k 11) ident _ tt (pass KindFits (eqb k 12 || eqb k 13) access _ tt
-            (pass KindFits (eqb k 14) Kind.call _ tt (pass KindFits (eqb k 16) arrow _ tt (pass KindFits (eqb k 21 || eqb k 25) keyed _ tt
-            (pass KindFits (eqb k 22) field _ tt (pass KindFits (eqb k 23) static _ tt (pass KindFits (eqb k 28) target other tt tt)))))))))),
+            (pick KindFits (eqb k 9) this _ tt (pick KindFits (eqb k 10) super _ tt (pick KindFits (eqb k 11) ident _ tt (pick KindFits (eqb k 12 || eqb k 13) access _ tt
+            (pick KindFits (eqb k 14) Kind.call _ tt (pick KindFits (eqb k 16) arrow _ tt (pick KindFits (eqb k 21 || eqb k 25) keyed _ tt
+            (pick KindFits (eqb k 22) field _ tt (pick KindFits (eqb k 23) static _ tt (pick KindFits (eqb k 28) target other tt tt)))))))))),
       ))))
 
 pub wf_fit : (r : Rows) → Wf r → Fit r
@@ -120,10 +117,6 @@ access_free k i e = go (eqb k 12) refl
     go true d = rw (eqb-eq k 12 d) (unfold kind_of own_of in refl)
     go false d = rw (eqb-eq k 13 (rw d at e)) (unfold kind_of own_of in refl)
 
-pub and_left : (x y : Bool) → (x && y) ≡ true → x ≡ true
-and_left true y e = refl
-and_left false y e = e
-
 light : (r : Rows) → Fit r → Light r
 unfolding Fit weight size first_super first_access first_inside TargetFirst
 light none f = record { all = λ b. omega arith; sup = λ e. absurd (false≢true e); acc = λ e. absurd (false≢true e); tgt = λ t e. absurd (false≢true e) }
@@ -143,10 +136,6 @@ pub weight-size : (r : Rows) → Fit r → (b : Bool) → weight b r ≤ size r
 weight-size r f b = (light r f).all b
 
 -- Slots of children.
-pub pick : (P : ℕ → Type 0) (x : Bool) (s t : ℕ) → P s → P t → P (cond x s t)
-pick P true s t h k = h
-pick P false s t h k = k
-
 unfoldable pub is_function : Kind → Bool
 is_function this = false
 is_function super = false

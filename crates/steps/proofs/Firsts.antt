@@ -2,7 +2,7 @@
 use mathlib.Core.Path.{◌≡◌, refl, ◌∙◌, sym}
 use mathlib.Core.List.{List}
 use Prim.Native.Nat.{ℕ, ◌+◌}
-use mathlib.Core.Bool.{Bool, true, false, cond, ◌&&◌}
+use mathlib.Core.Bool.{Bool, true, false, ◌&&◌}
 use lib.Dec.{eqb}
 use Rattle.forest.specs.Forest.{Rows, Rows.none, Rows.node}
 use Rattle.steps.specs.Mode.{Switches, async_only}
@@ -10,31 +10,28 @@ use Rattle.steps.specs.Super.{first_super, first_access}
 use Rattle.steps.specs.ArrowToFunction.{to_function?, dress}
 use Rattle.steps.specs.Slots.{dropped}
 use Rattle.steps.specs.Naming.{Names, named_arguments}
-use Rattle.steps.specs.Acts.{Ctx, Op, Op.row, Op.name, Op.call, Act, Kind, Kind.this, Kind.super, Kind.ident, Kind.access, Kind.call, Kind.assign, Kind.arrow, Kind.function, Kind.keyed, Kind.field, Kind.static, Kind.target, Kind.other, kind_of, reads?, sets?, act_of, act}
+use Rattle.steps.specs.Acts.{Ctx, Op, Op.row, Op.name, Op.call, Act, Kind, Kind.this, Kind.super, Kind.ident, Kind.access, Kind.call, Kind.assign}
+use Rattle.steps.specs.Acts.{Kind.arrow, Kind.function, Kind.keyed, Kind.field, Kind.static, Kind.target, Kind.other, kind_of, reads?, sets?, act_of, act}
 use Rattle.steps.specs.Bindings.{Binding, closes}
 use Rattle.steps.specs.AfterSuper.{super_call}
 use Rattle.steps.specs.TopInsertion.{top}
 use Rattle.steps.specs.Walk.{build}
 use Rattle.steps.specs.Context.{enter, Spot, into, act_c, emit_c}
-use Rattle.steps.proofs.Fewer.{pick}
 use Rattle.steps.proofs.Shape.{at}
-
-pick_o : (P : Op → Type 0) (x : Bool) (s t : Op) → P s → P t → P (cond x s t)
-pick_o P true s t h k = h
-pick_o P false s t h k = k
+use Rattle.names.proofs.Bools.{pick}
 
 -- What comes first stays first, unless it is dropped.
 module _ (N : Names) (w : Switches) (bs : List Binding) (c : Ctx) (l : Bool) (sl o k a n : ℕ) (i T S : Rows) (e7 : eqb sl dropped ≡ false) where
   -- the forms of a row that is not dropped
   forms : (P : Op → Type 0) → P (row k a n) → ((u f : ℕ) → P (name u f)) → ((u f x : ℕ) (t : Bool) → P (call u f x t)) → P (row 17 0 0) → (K : Kind) → P (act_of N w l c sl o K k a n i).op
   unfolding act_of
-  forms P r m g f this = pick_o P c.takes_this _ _ (m 1 c.this_at) r
+  forms P r m g f this = pick P c.takes_this _ _ (m 1 c.this_at) r
   forms P r m g f super = rw e7 r
-  forms P r m g f ident = pick_o P (async_only w && named_arguments N n && c.takes_arguments) _ _ (m 2 c.arguments_at) r
-  forms P r m g f access = rw e7 (pick_o P (reads? c sl i) _ _ (g 3 c.super_at n (eqb sl 6)) r)
+  forms P r m g f ident = pick P (async_only w && named_arguments N n && c.takes_arguments) _ _ (m 2 c.arguments_at) r
+  forms P r m g f access = rw e7 (pick P (reads? c sl i) _ _ (g 3 c.super_at n (eqb sl 6)) r)
   forms P r m g f Kind.call = r
-  forms P r m g f assign = pick_o P (sets? c i) _ _ (g 4 c.super_at _ false) r
-  forms P r m g f arrow = pick_o P (to_function? w a) _ _ f r
+  forms P r m g f assign = pick P (sets? c i) _ _ (g 4 c.super_at _ false) r
+  forms P r m g f arrow = pick P (to_function? w a) _ _ f r
   forms P r m g f function = r
   forms P r m g f keyed = r
   forms P r m g f field = r

@@ -1,6 +1,6 @@
 -- Change request No. 3: one of 21 to 25 is answered exactly where 2 was, at the same place, and every other answer is the same (`five_exactly`); so 2 is never answered (`two_retired`).
 -- Assumes nothing.
-use Rattle.std.specs.Prelude.{Option, Some, None, Ok, Err}
+use Rattle.std.specs.Prelude.{Option, Some, None, Err}
 use mathlib.Core.Path.{◌≡◌, refl, ap, sym, subst, ◌∙◌}
 use mathlib.Core.Bool.{Bool, true, false, cond}
 use mathlib.Core.List.{List}
@@ -9,17 +9,18 @@ use native.Mathlib.Omega.{arith}
 use lib.ListN.{length}
 use Rattle.names.specs.Words.{words, rows_in, names_in}
 use Rattle.names.specs.Names.{first_bad_name}
+use Rattle.names.specs.Answered.{unless_found}
 use Rattle.forest.specs.Faults.{first_fault}
 use Rattle.forest.specs.Bad.{row_of}
 use Rattle.forest.specs.Told.{first_deep}
-use Rattle.rows.specs.Refusals.{limited, sizes_ok, first_made, unless_named, unless_fault, unless_deep, unless_made, checked, Sound}
+use Rattle.rows.specs.Refusals.{limited, sizes_ok, first_made, checked, Sound}
 use Rattle.forest.proofs.Classes.{first-bad}
 use Rattle.rows.proofs.Five.{fault-five}
 use Rattle.steps.specs.Mode.{Switches}
 use Rattle.steps.specs.Outcome.{Outcome, Outcome.refused, Outcome.converted, Room, unless_refused, unless_at, outcome}
 use Rattle.steps.specs.Former.{former_outcome, FiveExactly}
 use Rattle.steps.proofs.Refusing.{RefusedBy, later, later-by}
-use Rattle.rows.specs.declared.Unsound.TheVariants.{Malformed}
+use Rattle.rows.specs.declared.Unsound.TheVariants.{Malformed, BadName, BadRow, TooDeep, MadeBinding}
 use Rattle.forest.specs.declared.BadRow.{BadRow as RowFault}
 
 -- neither 2 nor one of the five
@@ -56,7 +57,7 @@ one_of-five number row least most = record {
 }
 
 by_tests : (sized : Bool) (named : Option ℕ) (fault : Option RowFault) (deep made : Option ℕ) (rest : Outcome) → RefusedBy Other rest
-    → FiveExactly (unless_refused (cond sized (unless_named named (unless_fault fault (unless_deep deep (unless_made made Sound)))) (Err Malformed)) rest)
+    → FiveExactly (unless_refused (cond sized (unless_found BadName named (unless_found (λ (bad : RowFault). BadRow bad.fault bad.row) fault (unless_found TooDeep deep (unless_found MadeBinding made Sound)))) (Err Malformed)) rest)
     (cond sized (unless_at 4 named (unless_at 2 (row_of fault) (unless_at 3 deep (unless_at 5 made rest)))) (refused 1 0))
 by_tests false named fault deep made rest h = same (refused 1 0) (omega arith, λ q. omega arith)
 by_tests true (Some name) fault deep made rest h = same (refused 4 name) (omega arith, λ q. omega arith)

@@ -16,11 +16,11 @@ use Rattle.steps.specs.AfterSuper.{list, copy, super_call, after_super}
 use Rattle.steps.specs.Walk.{build}
 use Rattle.steps.specs.Context.{enter, start, Spot, spot, into, late_c, act_c, emit_c, made_c, steps_c}
 use Rattle.steps.specs.Fused.{met_of, direct_of, within, own, scan_of, next_of, anew, pass_of, top_s, build_s, emit_s, steps_s}
-use Rattle.steps.proofs.Fewer.{pick}
 use Rattle.steps.proofs.Shape.{at}
 use Rattle.steps.proofs.Scanning.{copied, body-row, Tells, built_row, framed_row}
 use Rattle.steps.proofs.Firsts.{inside, callee_same, statement_same}
 use Rattle.steps.proofs.Occurring.{fits, begun, fits-copy, begun-at, within_calm, steady-begun, Sound, sound}
+use Rattle.names.proofs.Bools.{pick}
 
 -- what occurs in a list occurs in the rows after its first
 next_low : (sc : ℕ) (first : Bool) → eqb (next_of sc first) 3 ≡ false

@@ -17,10 +17,11 @@ use Rattle.steps.specs.Walk.{build}
 use Rattle.steps.specs.ArrowToFunction.{dress}
 use Rattle.steps.specs.Context.{enter, start, Spot, spot, into, act_c, late_c, emit_c, made_c, steps_c}
 use Rattle.steps.proofs.Credit.{eqb-eq}
-use Rattle.steps.proofs.Fewer.{FitRow, Fit, Bodied, closes-plain, not_function, pick, slot_one, slot_more}
+use Rattle.steps.proofs.Fewer.{FitRow, Fit, Bodied, closes-plain, not_function, slot_one, slot_more}
 use Rattle.steps.proofs.Sizes.{supers, vol, upto, upto_all, upto-up, top-size, dress-vol, shut_vol}
 use Rattle.forest.specs.Forest.{Rows, Rows.none, Rows.node, size}
 use Rattle.steps.proofs.WellShaped.{OneBody, ParamsBody}
+use Rattle.names.proofs.Bools.{pick}
 
 bodied-wrapped : (sl : ℕ) → Bodied sl ≡ true → eqb sl wrapped ≡ false
 bodied-wrapped sl B = go (eqb sl body_of) refl

@@ -8,7 +8,6 @@ use Rattle.steps.specs.Mode.{Switches}
 use Rattle.steps.specs.Accepted.{Accepted}
 use Rattle.steps.specs.Outcome.{Outcome.converted, Room, outcome}
 use Rattle.steps.proofs.Acceptance.{Converted, converts}
-use Rattle.std.specs.Prelude.{Ok, Err}
 
 module _ (row_limit depth_limit more_rows more_depth : ℕ) (w : Switches) (rows names text : List ℕ) (lr : row_limit ≤ more_rows) (ld : depth_limit ≤ more_depth) where
   pub accepted_up : Accepted row_limit depth_limit w rows names text → Accepted more_rows more_depth w rows names text

@@ -2,7 +2,7 @@
 use mathlib.Core.Path.{◌≡◌, refl, ap, ◌∙◌, sym}
 use mathlib.Core.List.{List, [], ◌∷◌, ◌++◌, append-nil}
 use Prim.Native.Nat.{ℕ, ◌+◌, ◌≤◌}
-use mathlib.Core.Bool.{Bool, true, false, cond, not, ◌&&◌, ◌||◌, false≢true}
+use mathlib.Core.Bool.{Bool, true, false, cond, not, ◌||◌, false≢true}
 use lib.Dec.{eqb}
 use native.Mathlib.Omega.{arith}
 use Rattle.steps.specs.Naming.{Names, same_as}
@@ -11,15 +11,12 @@ use Rattle.steps.specs.Acts.{Ctx}
 use Rattle.steps.specs.TopInsertion.{param_numbers, arguments_decl, this_decl, accessor_decls, var_first, frame_top}
 use Rattle.steps.specs.Context.{Spot, collect_c}
 use Rattle.steps.proofs.Credit.{eqb-eq, eqb_no, eqb_yes}
-use Rattle.steps.proofs.Fewer.{and_no, and_left}
+use Rattle.steps.proofs.Fewer.{and_no}
 use Rattle.steps.specs.Owners.{Home, record_at, use_is1, captured_this, arrows_on}
 use Rattle.steps.proofs.Walks.{Ready, ready_in, ready_on, collect_shape}
 use Rattle.steps.proofs.Shape.{meet_e}
 use Rattle.forest.specs.Forest.{Rows, Rows.none, Rows.node, size}
-
-pub and_right : (x y : Bool) → (x && y) ≡ true → y ≡ true
-and_right true y e = e
-and_right false y e = absurd (false≢true e)
+use Rattle.names.proofs.Bools.{and_left, and_right}
 
 -- is `this` of frame f among the bindings
 unfoldable pub has : Names → ℕ → List Binding → Bool

@@ -10,14 +10,15 @@ use Rattle.steps.specs.Super.{first_super, first_access, first_name, first_insid
 use Rattle.steps.specs.ArrowToFunction.{to_function?}
 use Rattle.steps.specs.Slots.{body_of, late_body, dropped}
 use Rattle.steps.specs.Naming.{Names, named_arguments}
-use Rattle.steps.specs.Acts.{Ctx, Op.row, Op.drop, Op.name, Op.call, by, Act, does, Kind, Kind.this, Kind.super, Kind.ident, Kind.access, Kind.call, Kind.assign, Kind.arrow, Kind.keyed, Kind.field, Kind.static, Kind.target, Kind.other, kind_of, reads?, sets?, method_slot, act_of, act}
+use Rattle.steps.specs.Acts.{Ctx, Op.row, Op.drop, Op.name, Op.call, by, Act, does, Kind, Kind.this, Kind.super, Kind.ident, Kind.access, Kind.call, Kind.assign}
+use Rattle.steps.specs.Acts.{Kind.arrow, Kind.keyed, Kind.field, Kind.static, Kind.target, Kind.other, kind_of, reads?, sets?, method_slot, act_of, act}
 use Rattle.steps.specs.Bindings.{closes}
 use Rattle.steps.specs.AfterSuper.{list, visit, copy, direct, super_call, is_direct, is_met}
 use Rattle.steps.specs.Fused.{met_of, direct_of, within, scan_of, anew}
 use Rattle.steps.proofs.Credit.{eqb-eq}
-use Rattle.steps.proofs.Fewer.{pick}
 use Rattle.steps.proofs.Shape.{at}
 use Rattle.steps.proofs.Scanning.{calmly, Tells, no_met, no_direct}
+use Rattle.names.proofs.Bools.{pick}
 
 -- A Function's Body is in state copy; what falls away is in state copy or visit. No other slot asks anything.
 unfoldable pub fits : (sl sc : ℕ) → Bool

@@ -17,7 +17,8 @@ use Rattle.steps.specs.Slots.{free, wrapped}
 use Rattle.steps.specs.Context.{enter, start, Spot, spot, act_c, collect_c, emit_c, made_c, steps_c}
 use Rattle.steps.proofs.Credit.{eqb_no}
 use Rattle.steps.proofs.Fewer.{and_no}
-use Rattle.steps.specs.Owners.{ranked, count, own_one, own_more, Read.this_of, here, is_ident, is_target, made_ident, made_target, omitted, reads, Init, Init.this_by, decl_here, declared, arrow_here, arrows_of, Home, Home.at_top, Home.at_value, ArrowFits, home_one, home_more, Fits, Calm, captured_this, Paired, Paired.done, Paired.alike, Paired.named, OwnersKept, arrows_on}
+use Rattle.steps.specs.Owners.{ranked, count, own_one, own_more, Read.this_of, here, is_ident, is_target, made_ident, made_target, omitted, reads, Init, Init.this_by, decl_here, declared, arrow_here}
+use Rattle.steps.specs.Owners.{arrows_of, Home, Home.at_top, Home.at_value, ArrowFits, home_one, home_more, Fits, Calm, captured_this, Paired, Paired.done, Paired.alike, Paired.named, OwnersKept, arrows_on}
 use Rattle.steps.proofs.WellShaped.{NoThisKind, NoThisFirst, WfRow, Wf}
 use Rattle.steps.proofs.Shape.{Dull, at, kinds, moved_off, Usual, one_slot, dull_one, dull_more, new_kind, new_attr, new_name, meet_e}
 use Rattle.steps.proofs.Walks.{Ready, ready_in, ready_on, wf_zero, one, more, row_e, inside_e, emit_shape, collect_shape}

@@ -9,12 +9,14 @@ use Rattle.steps.specs.Paths.{Step, Step.along, Step.in_params, Step.in_body, St
 use Rattle.steps.specs.Mode.{Switches, bit, async_only}
 use Rattle.steps.specs.Naming.{Names, named_arguments}
 use Rattle.steps.specs.Bindings.{Binding, Binding.bind, number, note, closes, params_of, closed, meet, leave}
-use Rattle.steps.specs.Acts.{Ctx, Act, Op, Op.row, Op.drop, Op.name, Kind, Kind.this, Kind.super, Kind.ident, Kind.access, Kind.assign, Kind.arrow, Kind.function, Kind.keyed, Kind.field, Kind.static, Kind.target, Kind.other, kind_of, reads?, sets?, act_of, act}
+use Rattle.steps.specs.Acts.{Ctx, Act, Op, Op.row, Op.drop, Op.name, Kind, Kind.this, Kind.super, Kind.ident, Kind.access, Kind.assign, Kind.arrow}
+use Rattle.steps.specs.Acts.{Kind.function, Kind.keyed, Kind.field, Kind.static, Kind.target, Kind.other, kind_of, reads?, sets?, act_of, act}
 use Rattle.steps.specs.Super.{first_name, first_inside, first_super, first_access}
 use Rattle.steps.specs.ArrowToFunction.{to_function?}
 use Rattle.steps.specs.Slots.{callee, dropped}
 use Rattle.steps.specs.Context.{enter, start, Spot, spot, into, act_c, late_c, collect_c, made_c}
 use Rattle.forest.specs.Forest.{Rows, Rows.none, Rows.node, size}
+use Rattle.names.proofs.Bools.{and_left, and_right, pick, cond-le}
 
 -- The list only grows.
 pub record Grows (bs ds : List Binding) : Type 0 where
@@ -135,10 +137,6 @@ StepLow o (in_arrow a) = Unit {0}
 StepLow o (in_value r) = Unit {0}
 StepLow o (in_static r) = r ≤ o
 
-cond-le : (x : Bool) (a b o : ℕ) → a ≤ o → b ≤ o → cond x a b ≤ o
-cond-le true a b o h k = h
-cond-le false a b o h k = k
-
 pub enter-low : (w : Switches) (o : ℕ) (c : Ctx) → Low o c → (s : Step) → StepLow o s → Low o (enter w s c)
 unfolding enter StepLow
 enter-low w o c h along t = h
@@ -154,10 +152,6 @@ Sane M o (row k a n) = Unit {0}
 Sane M o drop = Unit {0}
 Sane M o (name u f) = (1 ≤ u) × (u ≤ 2) × (f ≤ o)
 Sane M o (Op.call u f x t) = (3 ≤ u) × (u ≤ 4) × (f ≤ o) × (x ≤ M) × (t ≡ true → u ≡ 3)
-
-pick : (P : Op → Type 0) (x : Bool) (s t : Op) → P s → P t → P (cond x s t)
-pick P true s t h k = h
-pick P false s t h k = k
 
 -- the names of accesses, all that the rules hand on, are among the M names; Other and Opaque hold any number
 unfoldable pub NamedRow : ℕ → Kind → ℕ → Type 0
@@ -187,18 +181,10 @@ unfolding kind_of
 access_kind k true e h = let q : k ≡ 12 = eqb_is k 12 e in rw q
 access_kind k false e h = let q : k ≡ 13 = eqb_is k 13 (rw e at h) in rw q
 
-and_first : (x y : Bool) → (x && y) ≡ true → x ≡ true
-and_first true y h = refl
-and_first false y h = h
-
-and_second : (x y : Bool) → (x && y) ≡ true → y ≡ true
-and_second true y h = h
-and_second false y h = absurd (false≢true h)
-
 first-name : (M : ℕ) (r : Rows) → Named M r → first_access r ≡ true → first_name r ≤ M
 unfolding Named first_name first_access NamedRow
 first-name M none h e = omega arith
-first-name M (node k a n i s) h e = subst (λ (K : Kind). NamedRow M K n) (access_kind k (eqb k 12) refl (and_first _ (first_super i) e)) h.0
+first-name M (node k a n i s) h e = subst (λ (K : Kind). NamedRow M K n) (access_kind k (eqb k 12) refl (and_left _ (first_super i) e)) h.0
 
 pick_if : (P : Op → Type 0) (x : Bool) (s t : Op) → (x ≡ true → P s) → P t → P (cond x s t)
 pick_if P true s t h k = h refl
@@ -224,7 +210,7 @@ module _ (N : Names) (w : Switches) (l : Bool) (c : Ctx) (sl o k a n : ℕ) (i :
     omega arith,
     h.super,
     first-name M _ (first-inside M i z)
-        (and_second c.takes_super _ y),
+        (and_right c.takes_super _ y),
     λ t. absurd (false≢true t),
   )) tt
   op_sane M h z arrow e = pick (Sane M o) (to_function? w a) (row 17 0 0) (row k a n) tt tt

@@ -12,6 +12,7 @@ use Rattle.names.specs.First.{first}
 use Rattle.names.specs.Words.{kind_at, attr_at, name_at, end_at}
 use Rattle.forest.specs.Forest.{Rows, Rows.none, Rows.node, size, flat}
 use Rattle.steps.specs.Refusals.{or_else, Rule, seek, alone}
+use Rattle.names.proofs.Laying.{drop_all}
 
 pub else_nothing : (f : Option ℕ) → or_else f None ≡ f
 else_nothing (Some r) = refl
@@ -25,12 +26,6 @@ else_tree None None s l = refl
 pub else_cond : (b : Bool) (o : ℕ) (g : Option ℕ) → or_else (cond b (Some o) None) g ≡ cond b (Some o) g
 else_cond true o g = refl
 else_cond false o g = refl
-
-pub drop_all : (m : ℕ) (ws : List ℕ) → length ws ≡ m → drop m ws ≡ []
-drop_all zero [] h = refl
-drop_all zero (w ∷ ws) h = absurd (omega arith)
-drop_all (suc m) [] h = absurd (omega arith)
-drop_all (suc m) (w ∷ ws) h = drop_all m ws (omega arith)
 
 -- the four words of row i, and those of the rows after it
 pub drop-four : (ws : List ℕ) (i : ℕ) → 4 * i + 3 < length ws →

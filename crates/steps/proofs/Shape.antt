@@ -14,9 +14,9 @@ use Rattle.steps.specs.Walk.{build}
 use Rattle.steps.specs.Slots.{body_of, late_body, dropped}
 use Rattle.steps.specs.Context.{enter, Spot, into}
 use Rattle.steps.proofs.Credit.{eqb-eq}
-use Rattle.steps.proofs.Fewer.{pick}
 use Rattle.steps.specs.Owners.{arrows_on}
 use Rattle.forest.specs.Forest.{Rows, Rows.none, Rows.node}
+use Rattle.names.proofs.Bools.{pick}
 
 -- The kinds by number: five of them, and the rest.
 pub record Dull (k : ℕ) : Type 0 where

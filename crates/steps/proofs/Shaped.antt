@@ -11,6 +11,7 @@ use Rattle.steps.specs.Acts.{Kind, Kind.this, Kind.super, Kind.ident, Kind.assig
 use Rattle.steps.proofs.Records.{Named, NamedRow}
 use Rattle.steps.proofs.WellShaped.{Empty, OneBody, ParamsBody, NoThisKind, NoThisFirst, TargetFirst, WfRow, Wf}
 use Rattle.steps.proofs.Shape.{at}
+use Rattle.names.proofs.Bools.{and_parts, pick}
 
 -- What the grammar says of a row.
 pub record Row (names r k a n m : ℕ) : Type 0 where
@@ -19,16 +20,12 @@ pub record Row (names r k a n m : ℕ) : Type 0 where
   pub many : count_ok k a m ≡ true
   pub name : name_ok k a n names ≡ true
 
-and_both : (x y : Bool) → (x && y) ≡ true → (x ≡ true) × (y ≡ true)
-and_both true y h = (refl, h)
-and_both false y h = absurd (false≢true h)
-
 pub row_of : (names r k a n m : ℕ) → row_ok names r k a n m ≡ true → Row names r k a n m
 row_of names r k a n m h =
-    let p = and_both _ (name_ok k a n names) h in
-    let q = and_both _ (count_ok k a m) p.0 in
-    let s = and_both _ (fits r k) q.0 in
-    let t = and_both (kind_ok k) (attr_ok k a r) s.0 in
+    let p = and_parts _ (name_ok k a n names) h in
+    let q = and_parts _ (count_ok k a m) p.0 in
+    let s = and_parts _ (fits r k) q.0 in
+    let t = and_parts (kind_ok k) (attr_ok k a r) s.0 in
     record { attr = t.1; place = s.1; many = q.1; name = p.1 }
 
 -- no row below the first has its place
@@ -133,10 +130,6 @@ unfolding TargetFirst place_of
 assign_target names a none w = tt
 assign_target names a (node k b n i s) w = nine_target k (row_of names (place_of 15 a 0) k b n (count i) w.0).place
 
-skip : (P : Kind → Type 0) (x : Bool) (K L : Kind) → P K → P L → P (cond x K L)
-skip P true K L p q = p
-skip P false K L p q = q
-
 module _ (names r a n : ℕ) (i : Rows) (e : eqb r 1 ≡ false) where
   abbrev Shape : ℕ → Type 0
   Shape k = Row names r k a n (count i) → WellFormed names k a 0 i → made_row k a ≡ false → WfRow k a i
@@ -162,12 +155,12 @@ module _ (names r a n : ℕ) (i : Rows) (e : eqb r 1 ≡ false) where
   name_row : (k : ℕ) → NameShape k
   unfolding NamedRow kind_of
   name_row k =
-      at NameShape 12 k (λ R m. leb-true n names (and_both (ltb 0 n) (leb n names) (simp or-false at (rw m at R.name))).1)
+      at NameShape 12 k (λ R m. leb-true n names (and_parts (ltb 0 n) (leb n names) (simp or-false at (rw m at R.name))).1)
       (λ e12. at NameShape 13 k (λ R m. let z : n ≡ 0 = eqb-true n 0 (simp (and-false, or-false) at R.name) in omega arith)
       (λ e13 R m. rw (e12, e13)
-      (skip NameKind (eqb k 9) this _ tt (skip NameKind (eqb k 10) super _ tt (skip NameKind (eqb k 11) ident _ tt
-      (skip NameKind (eqb k 14) Kind.call _ tt (skip NameKind (eqb k 15) assign _ tt (skip NameKind (eqb k 16) arrow _ tt (skip NameKind (eqb k 17) function _ tt (skip NameKind (eqb k 21 || eqb k 25) keyed _ tt
-      (skip NameKind (eqb k 22) field _ tt (skip NameKind (eqb k 23) static _ tt (skip NameKind (eqb k 28) target other tt tt)))))))))))))
+      (pick NameKind (eqb k 9) this _ tt (pick NameKind (eqb k 10) super _ tt (pick NameKind (eqb k 11) ident _ tt
+      (pick NameKind (eqb k 14) Kind.call _ tt (pick NameKind (eqb k 15) assign _ tt (pick NameKind (eqb k 16) arrow _ tt (pick NameKind (eqb k 17) function _ tt (pick NameKind (eqb k 21 || eqb k 25) keyed _ tt
+      (pick NameKind (eqb k 22) field _ tt (pick NameKind (eqb k 23) static _ tt (pick NameKind (eqb k 28) target other tt tt)))))))))))))
 
 -- The rows under a row, all that the laws of the steps ask.
 pub record Shaped (names : ℕ) (r : Rows) : Type 0 where

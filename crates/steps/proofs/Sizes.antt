@@ -18,8 +18,9 @@ use Rattle.steps.specs.TopInsertion.{head_n, past_prop, past, access_row, access
 use Rattle.steps.specs.ArrowToFunction.{dress}
 use Rattle.steps.specs.Slots.{wrapped}
 use Rattle.steps.proofs.Credit.{eqb-eq}
-use Rattle.steps.proofs.Fewer.{and_no, and_left}
+use Rattle.steps.proofs.Fewer.{and_no}
 use Rattle.forest.specs.Forest.{Rows, Rows.none, Rows.node, size}
+use Rattle.names.proofs.Bools.{and_left, and_right, pick}
 
 -- Supers outside of Functions and StaticBlocks: each can be followed by one assignment of five rows.
 unfoldable pub supers : Rows → ℕ
@@ -33,10 +34,6 @@ after-copy : (b : ℕ) (r : Rows) → after_super b copy r ≡ r
 unfolding after_super is_met is_direct scan_inner scan_next
 after-copy b none = refl
 after-copy b (node k a n i s) = rw (after-copy b i, after-copy b s)
-
-pick : (P : ℕ → Type 0) (x : Bool) (s t : ℕ) → P s → P t → P (cond x s t)
-pick P true s t h k = h
-pick P false s t h k = k
 
 abbrev pub Else : ℕ → Type 0
 Else sc = eqb sc direct ≡ false
@@ -83,10 +80,6 @@ first_counts : (r : Rows) → first_super r ≡ true → 1 ≤ supers r
 unfolding first_super supers
 first_counts none e = absurd (false≢true e)
 first_counts (node k a n i s) e = rw e (omega arith)
-
-and_right : (x y : Bool) → (x && y) ≡ true → y ≡ true
-and_right true y e = e
-and_right false y e = absurd (false≢true e)
 
 pub record After (b : ℕ) (r : Rows) : Type 0 where
   pub any : (sc : ℕ) → Else sc → size (after_super b sc r) ≤ vol r
@@ -328,7 +321,7 @@ top-size N bs r g l i =
     let x = l && not (eqb b 0) in
     omega (arith, var_size rs (cond x (after_super b list i) i), arguments_size (number N bs 2 r 0) g ds, decls_size r 1 (param_numbers r 1 bs) bs t, this_size b l, inside_size b x i)
 
-size-join : (x y : Rows) → size (join x y) ≡ size x + size y
+pub size-join : (x y : Rows) → size (join x y) ≡ size x + size y
 unfolding size join
 size-join none y = omega arith
 size-join (node k a n i s) y = omega (arith, size-join s y)

@@ -18,7 +18,8 @@ use Rattle.forest.proofs.Nesting.{tree-more, tree_done}
 use Rattle.forest.proofs.Accepting.{length-flat}
 use Rattle.forest.proofs.Down.{down-long, told-down}
 use Rattle.steps.specs.Refusals.{or_else, Rule, seek}
-use Rattle.steps.proofs.Seeks.{else_tree, else_cond, drop_all, drop-four, first-same}
+use Rattle.steps.proofs.Seeks.{else_tree, else_cond, drop-four, first-same}
+use Rattle.names.proofs.Laying.{drop_all}
 
 -- row 0 and what is below it, where it ends at the row count
 pub rooted : (ws : List ℕ) (n : ℕ) → 0 < n → end_at ws 0 ≡ n → rows_at ws 0 n ≡ node (kind_at ws 0) (attr_at ws 0) (name_at ws 0) (tree ws (n - 1) 1 (end_at ws 0)) none

@@ -1,5 +1,5 @@
 -- One acceptance, for the laws of the steps and demand 3: what refusals 1, 3 to 8 and 21 to 25 leave. Assumes nothing.
-use Rattle.std.specs.Prelude.{◌≡◌, List, ℕ, None, Ok, Err}
+use Rattle.std.specs.Prelude.{◌≡◌, List, ℕ, None}
 use Rattle.forest.specs.Forest.{table}
 use Rattle.rows.specs.Refusals.{checked, Sound}
 use Rattle.steps.specs.Mode.{Switches}

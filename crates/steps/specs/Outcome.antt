@@ -1,7 +1,7 @@
 -- What is answered for every input: the refusals in the request's order, and the result. Assumes nothing.
 use Rattle.std.specs.Prelude.{List, [], ◌∷◌, ℕ, cond, ◌&&◌, leb, length, Option, Some, None, Ok, Err}
 use Rattle.forest.specs.Forest.{size, flat, table}
-use Rattle.rows.specs.Refusals.{checked, unsound_number, unsound_place, Checked, Sound}
+use Rattle.rows.specs.Refusals.{checked, unsound_number, unsound_place, Checked}
 use Rattle.steps.specs.Mode.{Switches}
 use Rattle.steps.specs.Naming.{Names}
 use Rattle.steps.specs.Bindings.{Binding, Binding.bind}

@@ -1,9 +1,9 @@
-// Module 1: the mode, from the three switches of the target.
+// Module 1: the mode, from the three switches of the target; and how a bit of an attr is read.
 
 #![tactic(auto)]
 
-ghost use Rattle.std.specs.Prelude.{◌≡◌};
-ghost use Rattle.steps.specs.Mode.{mode_of, switches, is_disabled, is_async_only, moves};
+ghost use Rattle.std.specs.Prelude.{◌≡◌, ◌≤◌};
+ghost use Rattle.steps.specs.Mode.{bit, mode_of, switches, is_disabled, is_async_only, moves};
 
 // The mode of the conversion of arrow functions.
 #[derive(Clone, Copy, PartialEq, Eq)]
@@ -83,4 +83,13 @@ fn mode_of(
     } else {
         ArrowFunctionConverterMode::Disabled
     }
+}
+
+// Whether the bit of a word, such as an attr, is set whose value is j: 1, 2, 4 or 8.
+#[tactic(auto, unfolding(crate::specs::Mode::bit))]
+pub fn has_bit(j: usize, word: usize) -> bool
+    requires { 1 ≤ j }
+    ensures { result ≡ bit j word }
+{
+    word / j % 2 == 1
 }

@@ -5,7 +5,7 @@ use Rattle.base_text.specs.Refusals.{answer_number, answer_place, count_of}
 use Rattle.base_text.specs.declared.Refusal.{Refusal}
 use Rattle.names.specs.Bytes.{bytes_of}
 use Rattle.names.specs.Laid.{joined, pairs_from}
-use Rattle.made_names.specs.Naming.{naming_number, naming_place, pair_count, byte_count}
+use Rattle.made_names.specs.Naming.{pair_count, byte_count}
 use Rattle.made_names.specs.declared.Made.{Made}
 use Rattle.lookup.specs.Parts.{number_of, spells, by_attr, start_in, bytes_in}
 use Rattle.thawcopper.specs.declared.Spelled.{Spelled}
@@ -16,21 +16,16 @@ abbrev pub TellsText : Result ℕ Refusal → Spelled → Type 0
 TellsText answer s = (s.refusal ≡ answer_number answer) × (s.place ≡ answer_place answer) × (s.bytes ≡ count_of answer)
 
 abbrev pub TellsNames : Result Made Refusal → Named → Type 0
-TellsNames answer n = (n.refusal ≡ naming_number answer) × (n.place ≡ naming_place answer) × (n.pairs ≡ pair_count answer) × (n.bytes ≡ byte_count answer)
+TellsNames answer n = (n.refusal ≡ answer_number answer) × (n.place ≡ answer_place answer) × (n.pairs ≡ pair_count answer) × (n.bytes ≡ byte_count answer)
 
 -- Base text: the numbers of the answer, and the bytes lent before and after. The counted bytes of the text stand at the front, all else is as it was.
-pub record BaseTextAnswered (refusal place bytes : ℕ) (answer : Result ℕ Refusal) (text before after : List ℕ) : Type 0 where
-  pub refused : refusal ≡ answer_number answer
-  pub placed : place ≡ answer_place answer
-  pub counted : bytes ≡ count_of answer
+pub record BaseTextAnswered (s : Spelled) (answer : Result ℕ Refusal) (text before after : List ℕ) : Type 0 where
+  pub told : TellsText answer s
   pub written : after ≡ take (count_of answer) text ++ drop (count_of answer) before
 
 -- The maker of names: the numbers of the answer, and what was lent before and after. The counted pairs and bytes of the made names stand at the front, all else is as it was.
-pub record NamesAnswered (refusal place pairs bytes : ℕ) (answer : Result Made Refusal) (made : List (List ℕ)) (lent lent' out out' : List ℕ) : Type 0 where
-  pub refused : refusal ≡ naming_number answer
-  pub placed : place ≡ naming_place answer
-  pub paired : pairs ≡ pair_count answer
-  pub counted : bytes ≡ byte_count answer
+pub record NamesAnswered (n : Named) (answer : Result Made Refusal) (made : List (List ℕ)) (lent lent' out out' : List ℕ) : Type 0 where
+  pub told : TellsNames answer n
   pub pairs_written : lent' ≡ take (8 * pair_count answer) (bytes_of (pairs_from 0 made)) ++ drop (8 * pair_count answer) lent
   pub text_written : out' ≡ take (byte_count answer) (joined made) ++ drop (byte_count answer) out
 

@@ -11,12 +11,13 @@ ghost use Rattle.answer.specs.Converting.{Converts};
 ghost use Rattle.acts.specs.View.{switches_of};
 ghost use Rattle.thawcopper.specs.Entries.{TellsText, TellsNames, BaseTextAnswered, NamesAnswered, PartAnswered, switches_from, on_tablet, switches_in};
 
-use acts::switches::{Switches, has_bit};
+use acts::switches::Switches;
 use answer::Numbers;
 use base_text::{Refusal, Script};
 use converter::convert;
 use lookup::{part_of, refusal};
 use made_names::{Made, make_names};
+use steps::has_bit;
 
 // What base text answers: the request's number and place, and how many bytes were written.
 #[repr(C)]
@@ -54,7 +55,7 @@ pub fn thawcopper_base_text(
     text: &[u8],
     out: &mut [u8],
 ) -> Spelled
-    ensures { BaseTextAnswered result.refusal result.place result.bytes
+    ensures { BaseTextAnswered result
         (spelled number bindings.now names.now text.now (length out.old))
         (base_text number bindings.now names.now text.now) out.old out.new }
 {
@@ -77,6 +78,7 @@ pub struct Named {
     pub bytes: u32,
 }
 
+// Like the conversion to `Spelled`, into a struct of its own: so C has them.
 impl From<Result<Made, Refusal>> for Named {
     ghost from_gives = { TellsNames };
 
@@ -107,7 +109,7 @@ pub fn thawcopper_make_names(
     out_pairs: &mut [u8],
     out_text: &mut [u8],
 ) -> Named
-    ensures { NamesAnswered result.refusal result.place result.pairs result.bytes
+    ensures { NamesAnswered result
         (named bindings.now names.now text.now (length out_pairs.old) (length out_text.old))
         (made_names bindings.now names.now text.now)
         out_pairs.old out_pairs.new out_text.old out_text.new }

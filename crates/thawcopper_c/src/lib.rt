@@ -22,7 +22,7 @@ pub extern "C" fn thawcopper_base_text(
     text: &[u8],
     out: &mut [u8],
 ) -> Spelled
-    ensures { BaseTextAnswered result.refusal result.place result.bytes
+    ensures { BaseTextAnswered result
         (spelled number bindings.now names.now text.now (length out.old))
         (base_text number bindings.now names.now text.now) out.old out.new }
 {
@@ -39,7 +39,7 @@ pub extern "C" fn thawcopper_make_names(
     out_pairs: &mut [u8],
     out_text: &mut [u8],
 ) -> Named
-    ensures { NamesAnswered result.refusal result.place result.pairs result.bytes
+    ensures { NamesAnswered result
         (named bindings.now names.now text.now (length out_pairs.old) (length out_text.old))
         (made_names bindings.now names.now text.now)
         out_pairs.old out_pairs.new out_text.old out_text.new }

@@ -1,3 +1,4 @@
+-- What a run of a stored case repeats, and how long it is. Assumes nothing.
 use Rattle.std.specs.Prelude.{ℕ}
 use Rattle.vectors.specs.declared.runs.Kind.{Kind}
 use Rattle.vectors.specs.declared.runs.Kind.TheVariants.{Row, Record, Pair, Byte}

@@ -1,5 +1,5 @@
 // The cases of the input, run one behind the other: how many there are, and how many of them differ.
-ghost use Rattle.std.specs.Prelude.{◌+◌, ◌^◌, ◌<◌, ◌≤◌, length, IfOk};
+ghost use Rattle.std.specs.Prelude.{◌≡◌, ◌+◌, ◌^◌, ◌<◌, ◌≤◌, length, replicate, IfOk};
 
 use crate::compared::Compared;
 use crate::input::{Fault, numbers};
@@ -51,6 +51,7 @@ fn run_all<const N: usize, const P: usize, C: Cases<N, P>>(
         cases: 0,
         differ: 0,
     };
+    // A loop by hand: how many words a case has is known once it was run, so that there is no list to walk over: no plainer.
     while !words.rest.is_empty() {
         tally.cases += 1;
         let n = tally.cases;
@@ -79,7 +80,9 @@ pub struct Input<const B: usize, const W: usize> {
 }
 
 impl<const B: usize, const W: usize> Input<B, W> {
-    pub fn new() -> Input<B, W> {
+    pub fn new() -> Input<B, W>
+        ensures { (result.bytes ≡ replicate B 0) × (result.words ≡ replicate W 0) }
+    {
         Input {
             bytes: [0; B],
             words: [0; W],

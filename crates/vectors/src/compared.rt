@@ -1,5 +1,5 @@
 // What a case answers and leaves in the bytes that it lends, beside what is stored.
-ghost use Rattle.std.specs.Prelude.{◌≡◌, length, min, take, drop, replicate, All, IfOk, IsTrue};
+ghost use Rattle.std.specs.Prelude.{◌≡◌, ◌↔◌, length, min, take, drop, replicate, All, IfOk, IsTrue};
 
 use crate::input::Fault;
 use std::fmt;
@@ -8,13 +8,23 @@ use std::fmt;
 #[derive(Clone, Copy, PartialEq, Eq)]
 pub struct Numbers<const N: usize>(pub [u64; N]);
 
+// N words as numbers of an answer.
+pub(crate) fn widened<const N: usize>(words: &[u32]) -> [u64; N]
+    requires { length words.now ≡ N }
+    ensures { result ≡ words.now }
+{
+    let mut numbers = [0; N];
+    for i in 0..N {
+        numbers[i] = u64::from(words[i]);
+    }
+    numbers
+}
+
 impl<const N: usize> From<[u32; N]> for Numbers<N> {
+    ghost from_gives = { λ words numbers. numbers.0 ≡ words };
+
     fn from(words: [u32; N]) -> Numbers<N> {
-        let mut numbers = [0; N];
-        for (n, w) in numbers.iter_mut().zip(&words) {
-            *n = u64::from(*w);
-        }
-        Numbers(numbers)
+        Numbers(widened(&words))
     }
 }
 
@@ -62,7 +72,7 @@ pub struct Compared<const N: usize, const P: usize> {
 
 impl<const N: usize, const P: usize> Compared<N, P> {
     pub fn is_same(&self) -> bool
-        ensures { IsTrue result → self.now.got ≡ self.now.want }
+        ensures { IsTrue result ↔ (self.now.got ≡ self.now.want) × All (λ l. IsTrue l.1) self.now.lent }
     {
         self.got == self.want && self.lent.iter().all(|l| l.1)
     }

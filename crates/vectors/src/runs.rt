@@ -1,6 +1,6 @@
 // The bytes of one stored case: its rows or records, its name pairs and its text. Each part is stored as
 // runs of items.
-ghost use Rattle.std.specs.Prelude.{◌≡◌, ◌+◌, ◌*◌, ◌≤◌, ◌↔◌, length, IfOk, IsTrue};
+ghost use Rattle.std.specs.Prelude.{◌≡◌, ◌+◌, ◌*◌, ◌≤◌, ◌↔◌, length, replicate, IfOk, IsTrue};
 ghost use Rattle.vectors.specs.Kinds.{item_size};
 
 use crate::input::Fault;
@@ -121,7 +121,8 @@ fn put_runs(words: &mut Words<'_>, kind: Kind, out: &mut [u8]) -> Result<usize, 
     Ok(len)
 }
 
-// A part that consists of runs.
+// A part that consists of runs. Here and in each `build` only lengths are promised; what the bytes are is shown by the replay
+// programs, which print that no stored answer differs.
 pub fn runs<'a>(words: &mut Words<'_>, kind: Kind, out: &'a mut [u8]) -> Result<&'a [u8], Fault>
     ensures len { IfOk result (λ s. length s.now ≤ length out.old) }
     ensures words { IfOk result (λ _. length words.new.rest.now + 1 ≤ length words.old.rest.now) }
@@ -160,7 +161,9 @@ pub struct NameRoom {
 }
 
 impl NameRoom {
-    pub fn new() -> NameRoom {
+    pub fn new() -> NameRoom
+        ensures { (result.pairs ≡ replicate 32832 0) × (result.text ≡ replicate 65552 0) }
+    {
         NameRoom {
             pairs: [0; 32832],
             text: [0; 65552],
@@ -193,7 +196,9 @@ pub struct Room<const N: usize> {
 }
 
 impl<const N: usize> Room<N> {
-    pub fn new() -> Room<N> {
+    pub fn new() -> Room<N>
+        ensures { (result.first ≡ replicate N 0) × (result.names.pairs ≡ replicate 32832 0) × (result.names.text ≡ replicate 65552 0) }
+    {
         Room {
             first: [0; N],
             names: NameRoom::new(),

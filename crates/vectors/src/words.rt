@@ -1,7 +1,7 @@
 // The words of the input, read one behind the other.
 ghost use Rattle.std.specs.Prelude.{◌≡◌, ◌+◌, ◌∷◌, ◌++◌, length, IfOk};
 
-use crate::compared::Numbers;
+use crate::compared::{Numbers, widened};
 use crate::input::Fault;
 
 // The words that are still to be read.
@@ -30,12 +30,9 @@ impl<'a> Words<'a> {
 
     // The next N words, as an answer's numbers.
     pub fn answer<const N: usize>(&mut self) -> Result<Numbers<N>, Fault>
-        ensures { IfOk result (λ _. length self.new.rest.now + N ≡ length self.old.rest.now) }
+        ensures len { IfOk result (λ _. length self.new.rest.now + N ≡ length self.old.rest.now) }
+        ensures parts { IfOk result (λ a. self.old.rest.now ≡ a.0 ++ self.new.rest.now) }
     {
-        let mut numbers = [0; N];
-        for (n, w) in numbers.iter_mut().zip(self.take(N)?) {
-            *n = u64::from(*w);
-        }
-        Ok(Numbers(numbers))
+        Ok(Numbers(widened(self.take(N)?)))
     }
 }

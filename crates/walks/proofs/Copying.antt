@@ -1,6 +1,8 @@
 -- The bytes of a table are its rows, and records written one by one are the bindings that they stand for. Assumes nothing.
 use mathlib.Core.Path.{◌≡◌, refl, sym, ap, ◌∙◌}
 use mathlib.Core.List.{List, [], ◌∷◌, ◌++◌}
+use mir.Val.{Fits}
+use mir.Syntax.{w8}
 use Prim.Native.Nat.{ℕ, zero, suc, ◌+◌, ◌*◌, ◌-◌, ◌/◌, ◌%◌, ◌≤◌, ◌<◌}
 use native.Mathlib.Omega.{arith}
 use lib.ListN.{length, drop, get_or}
@@ -35,6 +37,16 @@ bytes_words (a ∷ b ∷ c ∷ []) n l h = absurd (omega arith)
 bytes_words (a ∷ b ∷ c ∷ d ∷ s) zero l h = absurd (omega arith)
 bytes_words (a ∷ b ∷ c ∷ d ∷ s) (suc n) l h =
     rw (word_bytes a b c d (h 0) (h 1) (h 2) (h 3)) (ap (λ (x : List ℕ). a ∷ b ∷ c ∷ d ∷ x) (bytes_words s n (omega arith) (λ i. h (suc (suc (suc (suc i)))))))
+
+-- the front of some bytes has bytes
+in_front : (xs ys : List ℕ) → ((i : ℕ) → get_or (xs ++ ys) i 0 < 256) → (i : ℕ) → get_or xs i 0 < 256
+in_front [] ys h i = omega arith
+in_front (x ∷ xs) ys h zero = h zero
+in_front (x ∷ xs) ys h (suc i) = in_front xs ys (λ j. h (suc j)) i
+
+-- and so has what was copied to the front
+pub in_copied : (xs ys : List ℕ) {new : List ℕ} → new ≡ xs → ((i : ℕ) → Fits w8 (get_or (new ++ ys) i 0)) → (i : ℕ) → get_or xs i 0 < 256
+in_copied xs ys {new} e h = in_front xs ys (λ (i : ℕ). let b : get_or (new ++ ys) i 0 < 256 = omega (arith, (h i).fits) in rw (← e) b)
 
 -- a table's own bytes at the front are its rows
 pub copied-front : (rows out out' : List ℕ) → GivenRows rows (rows_in rows) → ((i : ℕ) → get_or rows i 0 < 256) → length rows ≤ length out → out' ≡ rows ++ drop (length rows) out → Done out 0 (table rows) (rows_in rows) out'

@@ -20,7 +20,8 @@ use Rattle.steps.specs.Slots.{free, of_method, body_of, late_body, wrapped, call
 use Rattle.steps.specs.Super.{first_access, first_name, first_inside}
 use Rattle.steps.specs.ArrowToFunction.{dress, to_function?}
 use Rattle.steps.specs.AfterSuper.{after_super, list}
-use Rattle.steps.specs.Acts.{Ctx, Op, Op.row, Op.drop, Op.name, Op.call, Act, Kind, Kind.this, Kind.super, Kind.ident, Kind.access, Kind.call as calling, Kind.assign, Kind.arrow, Kind.function, Kind.keyed, Kind.field, Kind.static, Kind.target, Kind.other, kind_of, act_of, act, reads?, sets?, method_slot}
+use Rattle.steps.specs.Acts.{Ctx, Op, Op.row, Op.drop, Op.name, Op.call, Act, Kind, Kind.this, Kind.super, Kind.ident, Kind.access, Kind.call as calling}
+use Rattle.steps.specs.Acts.{Kind.assign, Kind.arrow, Kind.function, Kind.keyed, Kind.field, Kind.static, Kind.target, Kind.other, kind_of, act_of, act, reads?, sets?, method_slot}
 use Rattle.steps.specs.Bindings.{Binding, number, number_from, note, meet, leave, closes, closed}
 use Rattle.steps.specs.TopInsertion.{top, frame_top, arguments_decl, accessor_decls, param_numbers, this_decl, var_first}
 use Rattle.steps.specs.Walk.{build}
@@ -32,6 +33,7 @@ use Rattle.bindings.specs.Post.{Kept}
 use Rattle.refusals.specs.Given.{GivenRows}
 use Rattle.walks.specs.Ready.{becomes_function}
 use Rattle.steps.proofs.Records.{Grows, leave_grows, closed_grows, collect_grows}
+use borrow.Author.Tests.{not-true}
 
 -- the slots of rows that are neither dropped nor wrapped
 abbrev Fine : ℕ → Type 0
@@ -184,12 +186,8 @@ each_below t a zero j h x y = absurd (omega arith)
 each_below t a (suc n) j h x y =
     ⊎_elim (λ q. ap t (sym q) ∙ and_left (t a) _ h) (λ l. each_below t (a + 1) n j (and_right (t a) _ h) (omega arith) (omega arith)) (eq-or-lt_of_le x)
 
-none_true : (b : Bool) → not b ≡ true → b ≡ false
-none_true false h = refl
-none_true true h = absurd (cc)
-
 pub all_kept : (w : Switches) (e : Bool) (rows : List ℕ) → e ≡ enabled w → GivenRows rows (rows_in rows) → list_all (stays e (words rows)) (range_with_len 0 (rows_in rows)) ≡ true → NoRow (becomes_function w) (table rows)
-all_kept w e rows q g h = rows_no (words rows) (rows_in rows) g.nested (becomes_function w) (λ j l. rw (← q) (none_true _ (each_below (stays e (words rows)) 0 (rows_in rows) j h (omega arith) (omega arith))))
+all_kept w e rows q g h = rows_no (words rows) (rows_in rows) g.nested (becomes_function w) (λ j l. rw (← q) (not-true _ (each_below (stays e (words rows)) 0 (rows_in rows) j h (omega arith) (omega arith))))
 
 -- an array without bindings
 pub none_made : (M : List ℕ) (cap : ℕ) {count : ℕ} {bs : List Binding} → Kept M cap bs count → count ≡ 0 → bs ≡ []

@@ -11,7 +11,6 @@ use Rattle.names.specs.Words.{rows_in}
 use Rattle.forest.specs.Forest.{Rows, size, table}
 use Rattle.rows.specs.Sound.{SoundTable}
 use Rattle.rows.proofs.Soundness.{sound}
-use Rattle.spelling.specs.Spelling.{GivenNames}
 use Rattle.steps.specs.Mode.{Switches, enabled, async_only}
 use Rattle.steps.specs.Naming.{Names}
 use Rattle.steps.specs.Slots.{free}
@@ -39,7 +38,7 @@ use Rattle.refusals.specs.Given.{GivenRows}
 use Rattle.walks.specs.Ready.{Ready, Collected, Unchanged}
 use Rattle.answer.specs.Converting.{outcome_of, Answers}
 use Rattle.answer.proofs.Answering.{full-rows, full-bindings, converted-all}
-use Rattle.refusals.proofs.Giving.{sound_rows, sound_names}
+use Rattle.refusals.proofs.Giving.{sound_rows}
 
 -- whether the mode changes rows, by the two flags that the code has
 pub flags : (w : Switches) (e o b : Bool) → e ≡ enabled w → o ≡ async_only w → (e || o) ≡ b → (enabled w || async_only w) ≡ b
@@ -61,9 +60,6 @@ module _ (w : Switches) (rows names text : List ℕ) (A : Accepted 16384 128 w r
 
   pub given-rows : GivenRows rows (rows_in rows)
   given-rows = sound_rows 16384 128 rows names text table-sound
-
-  pub given-names : GivenNames names text
-  given-names = sound_names 16384 128 rows names text table-sound
 
   -- the whole table is a list of siblings
   pub given-range : Ranged rows 0 (rows_in rows)
@@ -151,9 +147,9 @@ module _ (rows names text : List ℕ) (v : Walk) (C : Collected rows names text 
   much_room room l = sym (le-leb (size made-rows) room (omega (arith, (result_within 16384 128 w rows names text C.accepted).rows-by, ap size rows_made, counted)))
 
   -- what the second walk asks of the table and of the array, and that no cursor wraps
-  pub walk_asks : (Ranged rows 0 (rows_in rows) × GivenNames names text) × (Holds names text v (rows_in rows) × (size made-rows < 2 ^ 32))
+  pub walk_asks : Ranged rows 0 (rows_in rows) × (Holds names text v (rows_in rows) × (size made-rows < 2 ^ 32))
   walk_asks = (
-    (given-range w rows names text C.accepted, given-names w rows names text C.accepted),
+    given-range w rows names text C.accepted,
     (
       record { filed = subst (Filed names text (behind v.bindings.cap v.bindings.made.now) v.bindings.cap) (sym C.kept.list) C.filed; rows_low = C.fits },
       subst (λ (t : Rows). size t < 2 ^ 32) rows_made

@@ -42,6 +42,10 @@ pub record Collected (rows names text : List ℕ) (v : Walk) : Type 0 where
   pub filed : Filed names text (behind v.bindings.cap v.bindings.made.now) v.bindings.cap (made_c (names_of names text) (switches_of v.switches) (table rows))
   pub fits : rows_in rows ≤ v.bindings.cap
 
+-- the same of the table that the walk has
+abbrev pub CollectedOf : Walk → Type 0
+CollectedOf v = Collected v.rows.now v.names.pairs.now v.names.text.now v
+
 -- what the functions below `convert` promise of their answer, and of the two slices before and after
 abbrev pub Gives : Switches → (rows names text : List ℕ) → Answer → (out_rows out_rows' out_bindings out_bindings' : List ℕ) → Type 0
 Gives w rows names text r out_rows out_rows' out_bindings out_bindings' =

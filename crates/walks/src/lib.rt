@@ -10,28 +10,39 @@ ghost use Rattle.names.specs.Words.{rows_in};
 ghost use Rattle.forest.specs.Forest.{size, NoRow, table};
 ghost use Rattle.steps.specs.Accepted.{Accepted};
 ghost use Rattle.acts.specs.View.{switches_of};
-ghost use Rattle.emit_plan.specs.Plans.{emitted};
+ghost use Rattle.emit_plan.specs.Plans.{emitted_of};
 ghost use Rattle.refusals.specs.Given.{GivenRows};
-ghost use Rattle.walks.specs.Ready.{Ready, Collected, Gives, Unchanged, becomes_function};
+ghost use Rattle.walks.specs.Ready.{Ready, CollectedOf, Gives, Unchanged, becomes_function};
 
-use acts::switches::{Switches, has_bit};
+use acts::switches::Switches;
 use answer::{Converted, Refusal};
 use bindings::view::Bindings;
 use collect::make_bindings;
-use copy::{copy_rows, write_records};
+use copy::write_records;
 use emit::emit;
 use emit_plan::Walk;
-use grammar::kinds::ARROW;
+use grammar::kind::Kind;
 use names::words::cell;
+use spelling::Names;
+use steps::has_bit;
+
+// A table that refusals 1, 3 to 8 and 21 to 25 leave under these switches.
+#[derive(Clone, Copy)]
+pub struct AcceptedTable<'a> {
+    pub switches: Switches,
+    pub rows: &'a [u8],
+    pub names: Names<'a>,
+    pub ghost accepted: { Accepted 16384 128 (switches_of switches) rows.now names.pairs.now names.text.now },
+}
 
 // Whether the rows of the result fit into room for that many. A result has at most 8 rows for each row
 // and 11 for each binding, so that with much room nothing is counted.
-fn has_room(rows: &[u8], names: &[u8], text: &[u8], walk: Walk<'_>, room: usize) -> bool
-    requires { Collected rows.now names.now text.now walk }
-    ensures { result ≡ leb (size (emitted rows.now names.now text.now walk.entry)) room }
+fn has_room(walk: &Walk<'_, '_>, room: usize) -> bool
+    requires { CollectedOf walk.now }
+    ensures { result ≡ leb (size (emitted_of walk.now)) room }
 {
-    let n = rows.len() / 16;
-    8 * n + 11 * walk.bindings.count <= room || emit(rows, names, text, walk, &mut []) <= room
+    let n = walk.rows.len() / 16;
+    8 * n + 11 * walk.bindings.count <= room || emit(walk, &mut []) <= room
 }
 
 // Whether no Arrow becomes a Function: "Enabled, not async".
@@ -41,57 +52,51 @@ fn keeps_arrows(switches: Switches, rows: &[u8]) -> bool
 {
     let enabled = switches.is_enabled();
     (0..rows.len() / 16).all(|i| {
-        let kind = cell(rows, 4 * i);
+        let kind = Kind::from(cell(rows, 4 * i));
         let attr = cell(rows, 4 * i + 1);
         let is_async = has_bit(1, attr);
-        !((kind == ARROW) & (enabled & !is_async))
+        !((kind == Kind::Arrow) & (enabled & !is_async))
     })
 }
 
-// The rows as they are, where there is room for them.
+// The rows as they are, where there is room for them: "Disabled: rows copied, no bindings."
 pub fn unchanged(
-    switches: Switches,
-    rows: &[u8],
-    names: &[u8],
-    text: &[u8],
+    table: &AcceptedTable<'_>,
     out_rows: &mut [u8],
     out_bindings: &mut [u8],
 ) -> Result<Converted, Refusal>
-    requires accepted { Accepted 16384 128 (switches_of switches) rows.now names.now text.now }
-    requires unchanged { Unchanged (switches_of switches) rows.now names.now text.now }
-    ensures { Gives (switches_of switches) rows.now names.now text.now result
+    requires { Unchanged (switches_of table.now.switches) table.now.rows.now table.now.names.pairs.now table.now.names.text.now }
+    ensures { Gives (switches_of table.now.switches) table.now.rows.now table.now.names.pairs.now table.now.names.text.now result
         out_rows.old out_rows.new out_bindings.old out_bindings.new }
 {
+    let rows = table.rows;
     if out_rows.len() / 16 < rows.len() / 16 {
         return Err(Refusal::NoRoom);
     }
-    let copied = copy_rows(rows, out_rows);
+    out_rows[..rows.len()].copy_from_slice(rows);
     Ok(Converted {
-        rows: copied,
+        rows: rows.len() / 16,
         bindings: 0,
     })
 }
 
 // The rows of the second walk and the records of the bindings, where there is room for both.
 fn write_walked(
-    rows: &[u8],
-    names: &[u8],
-    text: &[u8],
-    walk: Walk<'_>,
+    walk: &Walk<'_, '_>,
     out_rows: &mut [u8],
     out_bindings: &mut [u8],
 ) -> Result<Converted, Refusal>
-    requires { Collected rows.now names.now text.now walk }
-    ensures { Gives (switches_of walk.entry.switches) rows.now names.now text.now result
+    requires { CollectedOf walk.now }
+    ensures { Gives (switches_of walk.now.switches) walk.now.rows.now walk.now.names.pairs.now walk.now.names.text.now result
         out_rows.old out_rows.new out_bindings.old out_bindings.new }
 {
-    if !has_room(rows, names, text, walk, out_rows.len() / 16) {
+    if !has_room(walk, out_rows.len() / 16) {
         return Err(Refusal::NoRoom);
     }
     if out_bindings.len() / 12 < walk.bindings.count {
         return Err(Refusal::NoRoom);
     }
-    let written = emit(rows, names, text, walk, out_rows);
+    let written = emit(walk, out_rows);
     let recorded = write_records(walk.bindings, out_bindings);
     Ok(Converted {
         rows: written,
@@ -102,24 +107,26 @@ fn write_walked(
 // The bindings, and where there is room for them and for the rows, the rows and the records. Where no rule
 // said yes anywhere, the rows are the table's and need no walk.
 pub fn write_result(
-    switches: Switches,
-    rows: &[u8],
-    names: &[u8],
-    text: &[u8],
+    table: &AcceptedTable<'_>,
     made: &mut [u32],
     cap: usize,
     out_rows: &mut [u8],
     out_bindings: &mut [u8],
 ) -> Result<Converted, Refusal>
-    requires { Ready (switches_of switches) rows.now names.now text.now made.old cap }
-    ensures { Gives (switches_of switches) rows.now names.now text.now result
+    requires { Ready (switches_of table.now.switches) table.now.rows.now table.now.names.pairs.now table.now.names.text.now made.old cap }
+    ensures { Gives (switches_of table.now.switches) table.now.rows.now table.now.names.pairs.now table.now.names.text.now result
         out_rows.old out_rows.new out_bindings.old out_bindings.new }
 {
-    let count = make_bindings(rows, names, text, switches, made, cap);
-    if count == 0 && keeps_arrows(switches, rows) {
-        return unchanged(switches, rows, names, text, out_rows, out_bindings);
+    let count = make_bindings(table.rows, &table.names, table.switches, made, cap);
+    if count == 0 && keeps_arrows(table.switches, table.rows) {
+        return unchanged(table, out_rows, out_bindings);
     }
     let bindings = Bindings { made, cap, count };
-    let walk = Walk { switches, bindings };
-    write_walked(rows, names, text, walk, out_rows, out_bindings)
+    let walk = Walk {
+        switches: table.switches,
+        rows: table.rows,
+        names: table.names,
+        bindings,
+    };
+    write_walked(&walk, out_rows, out_bindings)
 }

@@ -1,15 +1,17 @@
 -- `candidates::first_fault` meets its contract. Assumes nothing.
-use mathlib.Core.Path.{◌≡◌}
+use mathlib.Core.Path.{◌≡◌, sym}
 use native.Mathlib.Omega.{arith}
+use Prim.Native.Nat.{ℕ}
 use Rattle.std.specs.Prelude.{Err}
 use Rattle.candidates.proofs.Writing.{few-records, testing_start, testing-next, testing-fault, testing-done, told-fault, told-passed}
+use lib.ListN.{length-replicate}
 use Rattle.candidates.proofs.first_fault.Goals as goal
 
 pub overflow_cast-count : goal.overflow_cast-count
 overflow_cast-count c = let l = few-records _ _ _ c.requires in omega (arith, c.records_in-count.ensures)
 
 pub loop-b-init : goal.loop-b-init
-loop-b-init c = (testing_start, c.base_room-out.ensures)
+loop-b-init c = (testing_start, sym (length-replicate {A = ℕ} 272 0))
 
 pub returns-in_err-text_of : goal.returns-in_err-text_of
 returns-in_err-text_of c =

@@ -44,7 +44,7 @@ collect-collect_row-requires t c = (
       low = c.loop-i.invariant.0.low;
       room = here-room c.requires.ranged.nested c.loop-i.invariant.0 c.loop-i-test.true (collects_at (sym c.loop-i.invariant.1.0) c.requires.collects);
     },
-    (c.requires.given_names, c.loop-i.invariant.0.filed),
+    c.loop-i.invariant.0.filed,
   ),
 )
 
@@ -86,10 +86,10 @@ collect_row-returns-then-stop-from t c =
     record {
       same_reference = refl;
       cap_value = refl;
-      kept = passed-leaf (names_of c.args.names.now c.args.text.now)
+      kept = passed-leaf (names_of c.args.names.now.pairs.now c.args.names.now.text.now)
           (switches_of c.args.switches) c.requires.row_collects c.kind_at-kind.ensures.0 c.attr_at.ensures.0
           (c.stays.ensures c.if-stays.true) refl c.if-stop-from.true;
-      filed_2 = filed_as c.requires.filed (passed-leaf (names_of c.args.names.now c.args.text.now)
+      filed_2 = filed_as c.requires.filed (passed-leaf (names_of c.args.names.now.pairs.now c.args.names.now.text.now)
           (switches_of c.args.switches) c.requires.row_collects c.kind_at-kind.ensures.0 c.attr_at.ensures.0
           (c.stays.ensures c.if-stays.true) refl c.if-stop-from.true).list;
     }
@@ -107,13 +107,10 @@ collect_row-collect-requires t c = (
           (rows_in c.args.rows.now) c.requires.row_collects.at.nested c.args.i c.requires.row_collects.at.row);
     },
     (
-      c.requires.given_names,
-      (
-        passed-collects
-            (names_of c.args.names.now c.args.text.now) (switches_of c.args.switches) c.requires.row_collects c.kind_at-kind.ensures.0 c.attr_at.ensures.0
-            (c.stays.ensures c.if-stays.true) c.inside-along.ensures,
-        c.requires.filed,
-      ),
+      passed-collects
+          (names_of c.args.names.now.pairs.now c.args.names.now.text.now) (switches_of c.args.switches) c.requires.row_collects c.kind_at-kind.ensures.0 c.attr_at.ensures.0
+          (c.stays.ensures c.if-stays.true) c.inside-along.ensures,
+      c.requires.filed,
     ),
   ),
 )
@@ -123,40 +120,30 @@ collect_row-returns-then-stays t c =
     record {
       same_reference = c.collect.ensures.same_reference;
       cap_value = c.collect.ensures.cap_value;
-      kept = passed-kept (names_of c.args.names.now c.args.text.now)
+      kept = passed-kept (names_of c.args.names.now.pairs.now c.args.names.now.text.now)
           (switches_of c.args.switches) c.requires.row_collects c.kind_at-kind.ensures.0 c.attr_at.ensures.0
           (c.stays.ensures c.if-stays.true) c.inside-along.ensures c.collect.ensures.kept;
-      filed_2 = passed-filed (names_of c.args.names.now c.args.text.now)
+      filed_2 = passed-filed (names_of c.args.names.now.pairs.now c.args.names.now.text.now)
           (switches_of c.args.switches) c.requires.row_collects c.kind_at-kind.ensures.0 c.attr_at.ensures.0
           (c.stays.ensures c.if-stays.true) c.inside-along.ensures c.collect.ensures.filed_2;
     }
 
-pub collect_row-is_late-late-requires : goal.collect_row-is_late-late-requires
-collect_row-is_late-late-requires t c = record {
-  at = c.requires.row_collects.at;
-  given_names = c.requires.given_names;
-}
-
-pub collect_row-act_at-act-requires : goal.collect_row-act_at-act-requires
-collect_row-act_at-act-requires t c = record {
-  at = c.requires.row_collects.at;
-  given_names = c.requires.given_names;
-}
+pub collect_row-invariant_of-node : goal.collect_row-invariant_of-node
+collect_row-invariant_of-node t c = record { known = c.requires.row_collects.at }
 
 pub collect_row-meet-requires : goal.collect_row-meet-requires
 collect_row-meet-requires t c =
-    let d = acted_late (names_of c.args.names.now c.args.text.now) (switches_of c.args.switches) (place_of c.args.q) c.args.i (kind_at
+    let d = acted_late (names_of c.args.names.now.pairs.now c.args.names.now.text.now) (switches_of c.args.switches) (place_of c.args.q) c.args.i (kind_at
     (words c.args.rows.now) c.args.i) (attr_at (words c.args.rows.now) c.args.i) (name_at (words c.args.rows.now) c.args.i) (children
     (words c.args.rows.now) c.args.i) c.is_late-late.ensures c.act_at-act.ensures.takes in
     record {
-      meets = row-meets-it (names_of c.args.names.now c.args.text.now) (switches_of c.args.switches) c.requires.row_collects d c.act_at-act.ensures.small;
-      given_names = c.requires.given_names;
+      meets = row-meets-it (names_of c.args.names.now.pairs.now c.args.names.now.text.now) (switches_of c.args.switches) c.requires.row_collects d c.act_at-act.ensures.small;
       filed = c.requires.filed;
     }
 
 pub collect_row-collect-requires-2 : goal.collect_row-collect-requires-2
 collect_row-collect-requires-2 t c =
-    let d = acted_late (names_of c.args.names.now c.args.text.now) (switches_of c.args.switches) (place_of c.args.q) c.args.i (kind_at
+    let d = acted_late (names_of c.args.names.now.pairs.now c.args.names.now.text.now) (switches_of c.args.switches) (place_of c.args.q) c.args.i (kind_at
     (words c.args.rows.now) c.args.i) (attr_at (words c.args.rows.now) c.args.i) (name_at (words c.args.rows.now) c.args.i) (children
     (words c.args.rows.now) c.args.i) c.is_late-late.ensures c.act_at-act.ensures.takes in (
       let m = c.decreases in omega arith,
@@ -170,41 +157,38 @@ collect_row-collect-requires-2 t c =
               (rows_in c.args.rows.now) c.requires.row_collects.at.nested c.args.i c.requires.row_collects.at.row);
         },
         (
-          c.requires.given_names,
-          (
-            children-collect
-                (names_of c.args.names.now c.args.text.now)
-                (switches_of c.args.switches) c.requires.row_collects d c.act_at-act.ensures.small c.meet.ensures.kept c.requires.row_collects.stops c.meet.ensures.cap_value,
-            subst (λ (m : ℕ). Filed c.args.names.now c.args.text.now (behind m c.meet.new.maker.made.now) m (binds c.meet.new.maker.made.now m c.meet.new.maker.count)) (sym c.meet.ensures.cap_value)
-                (filed_as c.meet.ensures.filed_2 (sym c.meet.ensures.kept.list)),
-          ),
+          children-collect
+              (names_of c.args.names.now.pairs.now c.args.names.now.text.now)
+              (switches_of c.args.switches) c.requires.row_collects d c.act_at-act.ensures.small c.meet.ensures.kept c.requires.row_collects.stops c.meet.ensures.cap_value,
+          subst (λ (m : ℕ). Filed c.args.names.now.pairs.now c.args.names.now.text.now (behind m c.meet.new.maker.made.now) m (binds c.meet.new.maker.made.now m c.meet.new.maker.count)) (sym c.meet.ensures.cap_value)
+              (filed_as c.meet.ensures.filed_2 (sym c.meet.ensures.kept.list)),
         ),
       ),
     )
 
 pub collect_row-finish-requires : goal.collect_row-finish-requires
 collect_row-finish-requires t c =
-    let d = acted_late (names_of c.args.names.now c.args.text.now) (switches_of c.args.switches) (place_of c.args.q) c.args.i (kind_at
+    let d = acted_late (names_of c.args.names.now.pairs.now c.args.names.now.text.now) (switches_of c.args.switches) (place_of c.args.q) c.args.i (kind_at
     (words c.args.rows.now) c.args.i) (attr_at (words c.args.rows.now) c.args.i) (name_at (words c.args.rows.now) c.args.i) (children
     (words c.args.rows.now) c.args.i) c.is_late-late.ensures c.act_at-act.ensures.takes in
-    row-finishes (names_of c.args.names.now c.args.text.now)
+    row-finishes (names_of c.args.names.now.pairs.now c.args.names.now.text.now)
     (switches_of c.args.switches) c.requires.row_collects d c.act_at-act.ensures.small c.meet.ensures.kept c.requires.row_collects.stops c.meet.ensures.cap_value
     c.collect-2.ensures.kept c.collect-2.ensures.cap_value c.kind_at-kind.ensures.0 c.closes-closing.ensures c.slot.ensures (ap (λ
     (s : Spot). s.ctx) c.spot-spot.ensures.result_value) c.this_at-frame.ensures.value
 
 pub collect_row-returns : goal.collect_row-returns
 collect_row-returns t c =
-    let d = acted_late (names_of c.args.names.now c.args.text.now) (switches_of c.args.switches) (place_of c.args.q) c.args.i (kind_at
+    let d = acted_late (names_of c.args.names.now.pairs.now c.args.names.now.text.now) (switches_of c.args.switches) (place_of c.args.q) c.args.i (kind_at
     (words c.args.rows.now) c.args.i) (attr_at (words c.args.rows.now) c.args.i) (name_at (words c.args.rows.now) c.args.i) (children
     (words c.args.rows.now) c.args.i) c.is_late-late.ensures c.act_at-act.ensures.takes in
     record {
       same_reference = c.finish.ensures.same_reference ∙ c.collect-2.ensures.same_reference ∙ c.meet.ensures.same_reference;
       cap_value = c.finish.ensures.cap_value ∙ c.collect-2.ensures.cap_value ∙ c.meet.ensures.cap_value;
-      kept = row_kept (names_of c.args.names.now c.args.text.now)
+      kept = row_kept (names_of c.args.names.now.pairs.now c.args.names.now.text.now)
           (switches_of c.args.switches) c.requires.row_collects d c.act_at-act.ensures.small c.meet.ensures.kept c.requires.row_collects.stops c.meet.ensures.cap_value
           c.collect-2.ensures.kept c.collect-2.ensures.cap_value c.kind_at-kind.ensures.0 c.closes-closing.ensures c.slot.ensures (ap (λ
           (s : Spot). s.ctx) c.spot-spot.ensures.result_value) c.this_at-frame.ensures.value c.finish.ensures.kept;
-      filed_2 = row-filed (names_of c.args.names.now c.args.text.now)
+      filed_2 = row-filed (names_of c.args.names.now.pairs.now c.args.names.now.text.now)
           (switches_of c.args.switches) c.requires.row_collects d c.act_at-act.ensures.small c.meet.ensures.kept c.requires.row_collects.stops c.meet.ensures.cap_value
           c.collect-2.ensures.kept c.collect-2.ensures.cap_value c.kind_at-kind.ensures.0 c.closes-closing.ensures c.slot.ensures (ap (λ
           (s : Spot). s.ctx) c.spot-spot.ensures.result_value) c.this_at-frame.ensures.value _ c.collect-2.ensures.filed_2 c.finish.ensures.made_unchanged;

@@ -19,7 +19,7 @@ decreases-collect_row l = 2 * (l.stop - (l.i + 1)) + 1
 
 abbrev pub invariant-collect-loop-i : goal.invariant-collect-loop-i
 invariant-collect-loop-i l =
-    Walking (names_of l.names l.text) (switches_of l.switches) (words l.rows) (rows_in l.rows) (place_of l.more) (collect_c (names_of l.names l.text) (switches_of l.switches)
+    Walking (names_of l.names.pairs.now l.names.text.now) (switches_of l.switches) (words l.rows) (rows_in l.rows) (place_of l.more) (collect_c (names_of l.names.pairs.now l.names.text.now) (switches_of l.switches)
     (place_of l.initial.q) (place_of l.more) l.from (rows_at (words l.rows) l.from l.end) (binds l.initial.maker.made.now l.initial.maker.cap l.initial.maker.count)) l.from l.end l.maker.cap l.maker.made.now l.i (place_of l.q) l.maker.count
     × ((l.maker.cap ≡ l.initial.maker.cap) × (l.maker.made.ghost_name ≡ l.initial.maker.made.ghost_name))
 

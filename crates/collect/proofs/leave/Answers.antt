@@ -26,18 +26,14 @@ returns-else-is_called-context c =
     }
 
 pub capture-requires : goal.capture-requires
-capture-requires c =
-    record {
-      u_nonzero = (omega arith, omega arith);
-      asked = record {
-        store = c.requires.store;
-        row_low = c.requires.row_low;
-        cap_low = c.requires.cap_low;
-        room = subst (λ
-            (l : List Binding). length l < c.args.maker.now.cap) (leave-some (context_of c.args.context) (op_of c.args.op)
-            (binds c.args.maker.now.made.now c.args.maker.now.cap c.args.maker.now.count) c.is_called.result c.is_called.ensures (ap not c.if-is_called-context.true)) c.requires.room;
-      };
-    }
+capture-requires c = record {
+  store = c.requires.store;
+  row_low = c.requires.row_low;
+  cap_low = c.requires.cap_low;
+  room = subst (λ
+      (l : List Binding). length l < c.args.maker.now.cap) (leave-some (context_of c.args.context) (op_of c.args.op)
+      (binds c.args.maker.now.made.now c.args.maker.now.cap c.args.maker.now.count) c.is_called.result c.is_called.ensures (ap not c.if-is_called-context.true)) c.requires.room;
+}
 
 pub returns-then-is_called-context : goal.returns-then-is_called-context
 returns-then-is_called-context c =

@@ -15,17 +15,16 @@ use Rattle.collect.proofs.make_bindings.Goals as goal
 pub collect-requires : goal.collect-requires
 collect-requires c = record {
   ranged = c.requires.ranged;
-  given_names = c.requires.given_names;
-  collects = program_collects (names_of c.args.names.now c.args.text.now) (switches_of c.args.switches) c.args.rows.now c.requires.starts c.program-start.ensures;
+  collects = program_collects (names_of c.args.names.now.pairs.now c.args.names.now.text.now) (switches_of c.args.switches) c.args.rows.now c.requires.starts c.program-start.ensures;
   filed = no_binds _ c.requires.filed;
 }
 
 pub returns : goal.returns
 returns c =
-    let whole = made_c (names_of c.args.names.now c.args.text.now) (switches_of c.args.switches) (table c.args.rows.now) in
-    let kept = program_kept (names_of c.args.names.now c.args.text.now) (switches_of c.args.switches) c.args.rows.now c.requires.starts c.program-start.ensures c.collect.ensures.kept in
-    let filed = program_filed (names_of c.args.names.now c.args.text.now) (switches_of c.args.switches) c.args.rows.now c.requires.starts c.program-start.ensures c.collect.ensures.filed_2 in
+    let whole = made_c (names_of c.args.names.now.pairs.now c.args.names.now.text.now) (switches_of c.args.switches) (table c.args.rows.now) in
+    let kept = program_kept (names_of c.args.names.now.pairs.now c.args.names.now.text.now) (switches_of c.args.switches) c.args.rows.now c.requires.starts c.program-start.ensures c.collect.ensures.kept in
+    let filed = program_filed (names_of c.args.names.now.pairs.now c.args.names.now.text.now) (switches_of c.args.switches) c.args.rows.now c.requires.starts c.program-start.ensures c.collect.ensures.filed_2 in
     record {
       kept = subst (λ (l : List ℕ). Kept l c.args.cap whole c.collect.new.maker.count) (search rules) kept;
-      filed_2 = subst (λ (l : List ℕ). Filed c.args.names.now c.args.text.now (behind c.args.cap l) c.args.cap whole) (search rules) filed;
+      filed_2 = subst (λ (l : List ℕ). Filed c.args.names.now.pairs.now c.args.names.now.text.now (behind c.args.cap l) c.args.cap whole) (search rules) filed;
     }

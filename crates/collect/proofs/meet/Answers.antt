@@ -1,29 +1,23 @@
 -- `collect::meet` meets its contract. Assumes nothing.
 use mathlib.Core.Path.{refl}
 use Rattle.steps.specs.Outcome.{names_of}
-use Rattle.passes.proofs.Numbers.{capture_tag, access_tag}
 use Rattle.collect.proofs.Meeting.{filed_as, name-filed, call-filed, row_meets, drop_meets, name-asks, name_meets, property-small, call_asks, call-meets}
 use native.Mathlib.Omega.{arith}
 use Rattle.collect.proofs.meet.Goals as goal
 
 pub capture-requires : goal.capture-requires
 capture-requires c =
-    let all = name-asks (names_of c.args.names.now c.args.text.now) c.args.maker.now.made.now c.args.maker.now.cap c.args.maker.now.count c.args.op c.in-Name.usage _ _ (capture_tag _) c.in-Name.is c.requires.meets in record {
-      u_nonzero = all.0;
-      asked = all.1;
-    }
+    name-asks (names_of c.args.names.now.pairs.now c.args.names.now.text.now) c.args.maker.now.made.now c.args.maker.now.cap c.args.maker.now.count c.args.op c.in-Name.usage _ c.in-Name.is c.requires.meets
 
 pub overflow_cast-property : goal.overflow_cast-property
 overflow_cast-property c =
-    let s = property-small (names_of c.args.names.now c.args.text.now) c.args.maker.now.made.now c.args.maker.now.cap c.args.maker.now.count c.args.op c.in-Call.usage _ _ _ _ (access_tag _) c.in-Call.is c.requires.meets in
+    let s = property-small (names_of c.args.names.now.pairs.now c.args.names.now.text.now) c.args.maker.now.made.now c.args.maker.now.cap c.args.maker.now.count c.args.op c.in-Call.usage _ _ _ c.in-Call.is c.requires.meets in
     omega arith
 
 pub note_super-requires : goal.note_super-requires
 note_super-requires c =
-    let a = call_asks (names_of c.args.names.now c.args.text.now) c.args.maker.now.made.now c.args.maker.now.cap c.args.maker.now.count c.args.op c.in-Call.usage _ _ _ _ (access_tag _) c.in-Call.is c.requires.meets in record {
-      asked = a.0;
-      given_names = c.requires.given_names;
-      u_value = a.1;
+    let a = call_asks (names_of c.args.names.now.pairs.now c.args.names.now.text.now) c.args.maker.now.made.now c.args.maker.now.cap c.args.maker.now.count c.args.op c.in-Call.usage _ _ _ c.in-Call.is c.requires.meets in record {
+      asked = a;
       filed = c.requires.filed;
     }
 
@@ -31,16 +25,16 @@ pub returns-in-Row : goal.returns-in-Row
 returns-in-Row c = record {
   same_reference = refl;
   cap_value = refl;
-  kept = row_meets (names_of c.args.names.now c.args.text.now) c.args.maker.now.made.now c.args.maker.now.cap c.args.maker.now.count c.args.op _ _ _ c.in-Row.is c.requires.meets;
-  filed_2 = filed_as c.requires.filed (row_meets (names_of c.args.names.now c.args.text.now) c.args.maker.now.made.now c.args.maker.now.cap c.args.maker.now.count c.args.op _ _ _ c.in-Row.is c.requires.meets).list;
+  kept = row_meets (names_of c.args.names.now.pairs.now c.args.names.now.text.now) c.args.maker.now.made.now c.args.maker.now.cap c.args.maker.now.count c.args.op _ _ _ c.in-Row.is c.requires.meets;
+  filed_2 = filed_as c.requires.filed (row_meets (names_of c.args.names.now.pairs.now c.args.names.now.text.now) c.args.maker.now.made.now c.args.maker.now.cap c.args.maker.now.count c.args.op _ _ _ c.in-Row.is c.requires.meets).list;
 }
 
 pub returns-in-Drop : goal.returns-in-Drop
 returns-in-Drop c = record {
   same_reference = refl;
   cap_value = refl;
-  kept = drop_meets (names_of c.args.names.now c.args.text.now) c.args.maker.now.made.now c.args.maker.now.cap c.args.maker.now.count c.args.op c.in-Drop.is c.requires.meets;
-  filed_2 = filed_as c.requires.filed (drop_meets (names_of c.args.names.now c.args.text.now) c.args.maker.now.made.now c.args.maker.now.cap c.args.maker.now.count c.args.op c.in-Drop.is c.requires.meets).list;
+  kept = drop_meets (names_of c.args.names.now.pairs.now c.args.names.now.text.now) c.args.maker.now.made.now c.args.maker.now.cap c.args.maker.now.count c.args.op c.in-Drop.is c.requires.meets;
+  filed_2 = filed_as c.requires.filed (drop_meets (names_of c.args.names.now.pairs.now c.args.names.now.text.now) c.args.maker.now.made.now c.args.maker.now.cap c.args.maker.now.count c.args.op c.in-Drop.is c.requires.meets).list;
 }
 
 pub returns-in-Name : goal.returns-in-Name
@@ -48,16 +42,19 @@ returns-in-Name c =
     record {
       same_reference = c.capture.ensures.same_reference;
       cap_value = c.capture.ensures.cap_value;
-      kept = name_meets (names_of c.args.names.now c.args.text.now) c.args.maker.now.made.now c.args.maker.now.cap c.args.maker.now.count c.args.op c.in-Name.usage _ _ (capture_tag _) c.in-Name.is c.requires.meets _ _
+      kept = name_meets (names_of c.args.names.now.pairs.now c.args.names.now.text.now) c.args.maker.now.made.now c.args.maker.now.cap c.args.maker.now.count c.args.op c.in-Name.usage _ c.in-Name.is c.requires.meets _ _
           c.capture.ensures.kept;
-      filed_2 = name-filed (names_of c.args.names.now c.args.text.now) c.args.maker.now.made.now c.args.maker.now.cap c.args.maker.now.count c.args.op c.in-Name.usage _ _ (capture_tag _) c.in-Name.is c.requires.meets _
+      filed_2 = name-filed (names_of c.args.names.now.pairs.now c.args.names.now.text.now) c.args.maker.now.made.now c.args.maker.now.cap c.args.maker.now.count c.args.op c.in-Name.usage _ c.in-Name.is c.requires.meets _
           c.requires.filed c.capture.ensures.made_unchanged;
     }
 
 pub returns-in-Call : goal.returns-in-Call
-returns-in-Call c = record {
-  same_reference = c.note_super.ensures.same_reference;
-  cap_value = c.note_super.ensures.cap_value;
-  kept = call-meets (names_of c.args.names.now c.args.text.now) c.args.maker.now.made.now c.args.maker.now.cap c.args.maker.now.count c.args.op c.in-Call.usage _ _ _ _ (access_tag _) c.in-Call.is c.requires.meets _ _ c.note_super.ensures.kept;
-  filed_2 = call-filed (names_of c.args.names.now c.args.text.now) c.args.maker.now.made.now c.args.maker.now.cap c.args.maker.now.count c.args.op c.in-Call.usage _ _ _ _ (access_tag _) c.in-Call.is c.requires.meets _ c.note_super.ensures.filed_2;
-}
+returns-in-Call c =
+    let names = c.args.names.now in
+    let maker = c.args.maker.now in
+    record {
+      same_reference = c.note_super.ensures.same_reference;
+      cap_value = c.note_super.ensures.cap_value;
+      kept = call-meets (names_of names.pairs.now names.text.now) maker.made.now maker.cap maker.count c.args.op c.in-Call.usage _ _ _ c.in-Call.is c.requires.meets _ _ c.note_super.ensures.kept;
+      filed_2 = call-filed (names_of names.pairs.now names.text.now) maker.made.now maker.cap maker.count c.args.op c.in-Call.usage _ _ _ c.in-Call.is c.requires.meets _ c.note_super.ensures.filed_2;
+    }

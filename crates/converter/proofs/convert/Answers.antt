@@ -14,7 +14,10 @@ returns-in_err-check c =
     promised _ _ _ _ _ _ _ _ _ _ _ _ _ (unsound_as _ _ _ _ _ _ _ _ _ q c.from_residual.result c.from_residual.ensures.1)
 
 pub refusal-requires : goal.refusal-requires
-refusal-requires c = given _ _ _ _ _ (sym c.in_ok-check.ensures)
+refusal-requires c = (given _ _ _ _ _ (sym c.in_ok-check.ensures)).0
+
+pub invariant_of-names : goal.invariant_of-names
+invariant_of-names c = record { given = (given _ _ _ _ _ (sym c.in_ok-check.ensures)).1 }
 
 pub returns-in_err-refusal : goal.returns-in_err-refusal
 returns-in_err-refusal c =
@@ -22,10 +25,10 @@ returns-in_err-refusal c =
     promised _ _ _ _ _ _ _ _ _ _ _ _ _
     (turned_as _ _ _ _ _ _ _ _ (sym q) _ (c.in_err-refusal.ensures (switches_of c.args.switches) c.new-converter.ensures.0) c.from_residual-in_err-refusal.result c.from_residual-in_err-refusal.ensures.1)
 
-pub result-requires : goal.result-requires
-result-requires c =
+pub invariant_of-table : goal.invariant_of-table
+invariant_of-table c =
     let q = checked_as c.args.tablet _ _ _ _ _ _ c.limits_for-limits.ensures.0 c.limits_for-limits.ensures.1 c.in_ok-check.ensures in
-    accepted_either c.args.tablet _ _ _ _ (accepted _ _ _ _ _ _ (sym q) (sym (c.in_ok-refusal.ensures (switches_of c.args.switches) c.new-converter.ensures.0)))
+    record { accepted = accepted_either c.args.tablet _ _ _ _ (accepted _ _ _ _ _ _ (sym q) (sym (c.in_ok-refusal.ensures (switches_of c.args.switches) c.new-converter.ensures.0))) }
 
 pub returns : goal.returns
 returns c =

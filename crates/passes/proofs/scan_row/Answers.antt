@@ -28,7 +28,7 @@ returns-then-eq-2 c =
       c.if-first.false,
       ← (c.eq-3.ensures ∙ state_same c.args.state Members),
       c.if-eq-2.true,
-      ← c.low_bit-set.ensures,
+      ← c.has_bit-set.ensures,
     ) c.scan_member.ensures
 
 pub returns : goal.returns
@@ -42,5 +42,5 @@ returns c =
       c.if-first.false,
       ← (c.eq-3.ensures ∙ state_same c.args.state Members),
       c.if-eq-2.false,
-      ← c.low_bit-set.ensures,
+      ← c.has_bit-set.ensures,
     ) c.scan_kind.ensures

@@ -14,18 +14,18 @@ pub hand_on-requires : goal.hand_on-requires
 unfolding named_arguments
 hand_on-requires c =
     let a = c.args in
-    let ns = names_of a.names.now a.text.now in
-    let ws = words a.rows.now in
-    placeable ns (switches_of a.switches) a.late (context_of c.spot-spot.result.context) (slot_number c.spot-spot.result.slot) a.i a.row.kind a.row.attr a.row.name (children ws a.i)
-    (c.decide.ensures ns (children ws a.i) c.look-below.ensures c.named_arguments-arguments.ensures) (let r = c.requires.at.row in let f = c.requires.at.few in omega arith) c.spot-spot.ensures.frames_below
+    let ns = names_of a.names.now.pairs.now a.names.now.text.now in
+    let ws = words a.node.rows.now in
+    placeable ns (switches_of a.switches) a.late (context_of c.spot-spot.result.context) (slot_number c.spot-spot.result.slot) a.node.at a.row.kind a.row.attr a.row.name (children ws a.node.at)
+    (c.decide.ensures ns (children ws a.node.at) c.look-below.ensures c.named_arguments-arguments.ensures) (let r = c.args.node.known.row in let f = c.args.node.known.few in omega arith) c.spot-spot.ensures.frames_below
 
 pub returns : goal.returns
 unfolding named_arguments
 returns c =
     let a = c.args in
     let w = switches_of a.switches in
-    let ns = names_of a.names.now a.text.now in
-    let ws = words a.rows.now in
-    takes_at ns w a.late a.i a.row.kind a.row.attr a.row.name (children ws a.i) c.spot-spot.ensures.result_value
-    (handed ns w a.late (context_of c.spot-spot.result.context) (slot_number c.spot-spot.result.slot) a.i a.row.kind a.row.attr a.row.name (children ws a.i)
-    (c.decide.ensures ns (children ws a.i) c.look-below.ensures c.named_arguments-arguments.ensures) c.hand_on.ensures)
+    let ns = names_of a.names.now.pairs.now a.names.now.text.now in
+    let ws = words a.node.rows.now in
+    takes_at ns w a.late a.node.at a.row.kind a.row.attr a.row.name (children ws a.node.at) c.spot-spot.ensures.result_value
+    (handed ns w a.late (context_of c.spot-spot.result.context) (slot_number c.spot-spot.result.slot) a.node.at a.row.kind a.row.attr a.row.name (children ws a.node.at)
+    (c.decide.ensures ns (children ws a.node.at) c.look-below.ensures c.named_arguments-arguments.ensures) c.hand_on.ensures)

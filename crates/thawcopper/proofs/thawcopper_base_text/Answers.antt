@@ -3,7 +3,7 @@ use Prim.Native.Nat.{ℕ}
 use mathlib.Core.Path.{ap, ◌∙◌}
 use mathlib.Core.List.{◌++◌}
 use lib.ListN.{take, drop}
-use Rattle.base_text.specs.Refusals.{answer_number, answer_place, count_of, base_text}
+use Rattle.base_text.specs.Refusals.{count_of, base_text}
 use Rattle.std.specs.Prelude.{Result}
 use Rattle.base_text.specs.declared.Refusal.{Refusal}
 use Rattle.thawcopper.proofs.thawcopper_base_text.Goals as goal
@@ -12,10 +12,7 @@ pub returns : goal.returns
 returns c =
     let a = c.args in
     let told = c.base_text.ensures in
-    let said = c.from.ensures in
     record {
-      refused = said.0 ∙ ap answer_number told.right;
-      placed = said.1 ∙ ap answer_place told.right;
-      counted = said.2 ∙ ap count_of told.right;
+      told = rw (← told.right) c.from.ensures;
       written = told.bytes ∙ ap (λ (s : Result ℕ Refusal). take (count_of s) (base_text a.number a.bindings.now a.names.now a.text.now) ++ drop (count_of s) a.out.now) told.right;
     }

@@ -10,5 +10,8 @@ use Rattle.walks.proofs.keeps_arrows.Goals as goal
 
 pub returns : goal.returns
 returns c =
-    λ e. all_kept (switches_of c.args.switches) _ _ c.is_enabled-enabled.ensures c.requires
-    (sym (all_from_yields_List (stays c.is_enabled-enabled.result (words c.args.rows.now)) _ _ _ c.all.ensures.ran (YieldsList-from_range 0 (rows_in c.args.rows.now) (rows_in c.args.rows.now) refl (omega arith)) (λ x b q k. search (rules, tests))) ∙ e)
+    let rows = c.args.rows.now in
+    let n = rows_in rows in
+    let range = YieldsList-from_range 0 n n refl (omega arith) in
+    let all = all_from_yields_List (stays c.is_enabled-enabled.result (words rows)) _ _ _ c.all.ensures.ran range (λ x b q k. search (rules, tests)) in
+    λ e. all_kept (switches_of c.args.switches) _ _ c.is_enabled-enabled.ensures c.requires (sym all ∙ e)

@@ -3,13 +3,12 @@ use Rattle.steps.specs.Outcome.{names_of}
 use Rattle.forest.specs.Forest.{table}
 use Rattle.acts.specs.View.{switches_of}
 use Rattle.walks.proofs.Quiet.{quiet-steps, none_made}
-use Rattle.walks.proofs.Readying.{given-names, given-rows, given-range, bindings_few}
+use Rattle.walks.proofs.Readying.{given-rows, given-range, bindings_few}
 use Rattle.walks.proofs.write_result.Goals as goal
 
 pub make_bindings-count-requires : goal.make_bindings-count-requires
 make_bindings-count-requires c = record {
   ranged = given-range _ _ _ _ c.requires.accepted;
-  given_names = given-names _ _ _ _ c.requires.accepted;
   starts = record { store = c.requires.empty; cap_low = c.requires.low; rows_low = c.requires.fits; room = bindings_few _ _ _ _ _ _ c.requires };
   filed = c.requires.unfiled;
 }
@@ -19,11 +18,9 @@ keeps_arrows-requires c = given-rows _ _ _ _ c.requires.accepted
 
 pub unchanged-requires : goal.unchanged-requires
 unchanged-requires c =
-    record {
-      accepted = c.requires.accepted;
-      unchanged = quiet-steps (names_of c.args.names.now c.args.text.now) (switches_of c.args.switches) (table c.args.rows.now) c.requires.on
-          (c.keeps_arrows.ensures c.if-keeps_arrows.true) (none_made _ c.args.cap c.make_bindings-count.ensures.kept c.if-count-eq0.true);
-    }
+    let t = c.args.table.now in
+    quiet-steps (names_of t.names.pairs.now t.names.text.now) (switches_of t.switches) (table t.rows.now) c.requires.on
+    (c.keeps_arrows.ensures c.if-keeps_arrows.true) (none_made _ c.args.cap c.make_bindings-count.ensures.kept c.if-count-eq0.true)
 
 pub invariant_of-bindings : goal.invariant_of-bindings
 invariant_of-bindings c = record {

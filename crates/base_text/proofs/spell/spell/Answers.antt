@@ -8,7 +8,7 @@ use borrow.Author.Tests.{ne_eqb}
 use lib.ListN.{length, take, drop}
 use Rattle.std.specs.Prelude.{Some}
 use Rattle.names.specs.Names.{bytes_of, start_of, length_of}
-use Rattle.base_text.specs.Bindings.{number_of_role}
+use Rattle.uses.specs.Uses.{use_number}
 use Rattle.base_text.specs.Bases.{property_ok}
 use Rattle.base_text.proofs.Short.{base_short, Good, good-bytes}
 use Rattle.base_text.proofs.Checking.{NameAt, name-at}
@@ -25,7 +25,7 @@ unfolding bytes_of
 part names text k start n some p q = let z : k ≡ 0 → ⊥ = λ e. omega arith in cut start n text ∙ rw (ne_eqb k 0 z, p, q)
 
 pub write-requires : goal.write-requires
-write-requires c = let l : length c.base_of-base.result.now ≤ 13 = rw c.base_of-base.ensures (base_short (number_of_role c.args.binding.role)) in omega arith
+write-requires c = let l : length c.base_of-base.result.now ≤ 13 = rw c.base_of-base.ensures (base_short (use_number c.args.binding.usage)) in omega arith
 
 pub slice_bounds-spell_property-end : goal.slice_bounds-spell_property-end
 slice_bounds-spell_property-end c =
@@ -44,7 +44,7 @@ spell_property-requires c =
     let e : property_ok a.names.now a.text.now (Some k) ≡ true = rw c.in-Some.is at c.requires.1 in
     let g : Good (bytes_of a.names.now a.text.now k) = good-bytes a.names.now a.text.now k (name-at a.names.now a.text.now k e) in
     let q = part a.names.now a.text.now k _ _ (name-at a.names.now a.text.now k e).some c.cell-start.ensures.0 c.cell.ensures.0 in
-    (rw c.base_of-base.ensures (base_short (number_of_role a.binding.role)), rw q g.some, rw q g.few)
+    (rw c.base_of-base.ensures (base_short (use_number a.binding.usage)), rw q g.some, rw q g.few)
 
 pub returns-in_default : goal.returns-in_default
 returns-in_default c = bare _ _ _ _ _ _ _ _ c.in_default.is (rw c.base_of-base.ensures at c.write.ensures)

@@ -8,14 +8,12 @@ use Rattle.converter.proofs.result.result.Goals as goal
 
 pub unchanged-requires : goal.unchanged-requires
 unchanged-requires c =
-    record {
-      accepted = c.requires;
-      unchanged = steps-off (names_of c.args.names.now c.args.text.now) (switches_of c.args.switches) (table c.args.rows.now)
-          (flags _ _ _ _ c.is_enabled-enabled.ensures c.is_async_only-only.ensures c.if-not-enabled-only.true);
-    }
+    let t = c.args.table.now in
+    steps-off (names_of t.names.pairs.now t.names.text.now) (switches_of t.switches) (table t.rows.now)
+    (flags _ _ _ _ c.is_enabled-enabled.ensures c.is_async_only-only.ensures c.if-not-enabled-only.true)
 
 pub over-requires : goal.over-requires
-over-requires c = record {
-  accepted = c.requires;
-  switches_value = ((flags _ _ _ _ c.is_enabled-enabled.ensures c.is_async_only-only.ensures c.if-not-enabled-only.false), (let g = (given-rows _ _ _ _ c.requires).few in omega arith, omega arith));
-}
+over-requires c = (
+  (flags _ _ _ _ c.is_enabled-enabled.ensures c.is_async_only-only.ensures c.if-not-enabled-only.false),
+  (let g = (given-rows _ _ _ _ c.args.table.now.accepted).few in omega arith, omega arith),
+)

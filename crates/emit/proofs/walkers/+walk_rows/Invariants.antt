@@ -1,4 +1,5 @@
 -- The walkers of `emit::walkers` meet their contracts. Assumes nothing.
+use mathlib.Core.Path.{◌≡◌}
 use Rattle.passes.specs.View.{state_number}
 use Rattle.plan.specs.Placing.{place_of}
 use Rattle.emit.proofs.Lists.{Turning}
@@ -40,7 +41,9 @@ decreases-undressed l = 8 * (l.plan.inner.end - l.plan.inner.from) + 4
 
 abbrev pub invariant-list-loop-i : goal.invariant-list-loop-i
 invariant-list-loop-i l =
-    Turning l.rows l.names l.text l.walk l.bind (state_number l.initial.state) (place_of l.initial.q) (place_of l.more) l.initial.i l.end l.initial.out l.at l.i (place_of l.q) (state_number l.state) l.out l.next
+    Turning l.walk.rows.now l.walk.names.pairs.now l.walk.names.text.now l.walk l.bind (state_number l.initial.state) (place_of l.initial.q) (place_of l.more)
+    l.initial.i l.end l.initial.w.rows.now l.initial.w.at l.i (place_of l.q) (state_number l.state) l.w.rows.now l.w.at
+    × (l.w.rows.ghost_name ≡ l.initial.w.rows.ghost_name)
 
 abbrev pub decreases-list-loop-i : goal.decreases-list-loop-i
 decreases-list-loop-i l = l.end - l.i

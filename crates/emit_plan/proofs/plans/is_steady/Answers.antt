@@ -13,4 +13,4 @@ pub returns-then-eq : goal.returns-then-eq
 returns-then-eq c = λ h. subst (λ (s : ℕ). Steady s c.args.kind) (sym (eqb-eq _ _ (state_told c.args.state Copy c.eq.ensures c.if-eq.true))) (steady-copy c.args.kind)
 
 pub returns : goal.returns
-returns c = λ h. steady_of (state_number c.args.state) c.args.kind (rw (← (c.eq-2.ensures ∙ state_same c.args.state Visit), ← (c.eq-3.ensures ∙ state_same c.args.state List)) h)
+returns c = λ h. steady_of (state_number c.args.state) c.args.kind (rw (← c.changes_state.ensures, ← (c.eq-2.ensures ∙ state_same c.args.state Visit), ← (c.eq-3.ensures ∙ state_same c.args.state List)) h)

@@ -14,32 +14,37 @@ use Rattle.plan.proofs.Frames.{row_act_low}
 use Rattle.emit_plan.proofs.Planning.{plan_is}
 use Rattle.emit_plan.proofs.plans.plan_at.Goals as goal
 
-pub this_of-m-requires : goal.this_of-m-requires
-this_of-m-requires c =
-    let d = acted_late (names_of c.args.names.now c.args.text.now) (switches_of c.args.walk.switches) (place_of c.args.q) c.args.i (kind_at
-    (words c.args.rows.now) c.args.i) (attr_at (words c.args.rows.now) c.args.i) (name_at (words c.args.rows.now) c.args.i) (children
-    (words c.args.rows.now) c.args.i) c.is_late-late.ensures c.act_at-act.ensures.takes in
-    let low = row_act_low (names_of c.args.names.now c.args.text.now) (switches_of c.args.walk.switches) (place_of c.args.q)
-    (words c.args.rows.now) c.args.i c.args.walk.bindings.cap
+pub invariant_of-node : goal.invariant_of-node
+invariant_of-node c = record { known = c.requires.at }
+
+pub invariant_of-opened : goal.invariant_of-opened
+invariant_of-opened c =
+    let v = c.args.walk.now in
+    let d = acted_late (names_of v.names.pairs.now v.names.text.now) (switches_of v.switches) (place_of c.args.q) c.args.i (kind_at
+    (words v.rows.now) c.args.i) (attr_at (words v.rows.now) c.args.i) (name_at (words v.rows.now) c.args.i) (children
+    (words v.rows.now) c.args.i) c.is_late-late.ensures c.act_at-act.ensures.takes in
+    let low = row_act_low (names_of v.names.pairs.now v.names.text.now) (switches_of v.switches) (place_of c.args.q)
+    (words v.rows.now) c.args.i v.bindings.cap
     (let r = c.requires.at.row in let h = c.requires.holds.rows_low in omega arith) c.requires.frames_below.0 c.act_at-act.ensures.small c.act_at-act.result d
     in
-    subst (λ (f : ℕ). f < c.args.walk.bindings.cap) (sym c.this_at-frame.ensures.value) low.more.this
+    record { low = subst (λ (f : ℕ). f < v.bindings.cap) (sym c.this_at.ensures.value) low.more.this }
 
 pub returns : goal.returns
 returns c =
-    let d = acted_late (names_of c.args.names.now c.args.text.now) (switches_of c.args.walk.switches) (place_of c.args.q) c.args.i (kind_at
-    (words c.args.rows.now) c.args.i) (attr_at (words c.args.rows.now) c.args.i) (name_at (words c.args.rows.now) c.args.i) (children
-    (words c.args.rows.now) c.args.i) c.is_late-late.ensures c.act_at-act.ensures.takes in
-    let low = row_act_low (names_of c.args.names.now c.args.text.now) (switches_of c.args.walk.switches) (place_of c.args.q)
-    (words c.args.rows.now) c.args.i c.args.walk.bindings.cap
+    let v = c.args.walk.now in
+    let d = acted_late (names_of v.names.pairs.now v.names.text.now) (switches_of v.switches) (place_of c.args.q) c.args.i (kind_at
+    (words v.rows.now) c.args.i) (attr_at (words v.rows.now) c.args.i) (name_at (words v.rows.now) c.args.i) (children
+    (words v.rows.now) c.args.i) c.is_late-late.ensures c.act_at-act.ensures.takes in
+    let low = row_act_low (names_of v.names.pairs.now v.names.text.now) (switches_of v.switches) (place_of c.args.q)
+    (words v.rows.now) c.args.i v.bindings.cap
     (let r = c.requires.at.row in let h = c.requires.holds.rows_low in omega arith) c.requires.frames_below.0 c.act_at-act.ensures.small c.act_at-act.result d
     in
-    let all = plan_is c.args.rows.now c.args.names.now c.args.text.now c.args.walk c.args.bind (state_number c.args.state) c.args.q c.args.i c.slot-slot.result
+    let all = plan_is v.rows.now v.names.pairs.now v.names.text.now v c.args.bind (state_number c.args.state) c.args.q c.args.i c.slot-slot.result
     c.words_at-words.result.kind c.words_at-words.result.attr c.words_at-words.result.name c.end_at-end.result c.this_of-m.result c.look-below.result.first_super
-    c.look-below.result.super_call c.act_at-act.result c.pass_of-pass.result c.requires.at c.requires.given_names c.requires.holds c.requires.frames_below.0
+    c.look-below.result.super_call c.act_at-act.result c.pass_of-pass.result c.requires.at v.names.given c.requires.holds c.requires.frames_below.0
     c.requires.frames_below.1 c.slot-slot.ensures c.words_at-words.ensures.kind c.words_at-words.ensures.attr c.words_at-words.ensures.name
-    c.end_at-end.ensures.0 d c.act_at-act.ensures.small low.more.this (c.this_of-m.ensures ∙ ap (this_at c.args.walk.bindings.made.now
-    c.args.walk.bindings.cap) c.this_at-frame.ensures.value) c.look-below.ensures.supered c.look-below.ensures.called c.pass_of-pass.ensures in
+    c.end_at-end.ensures.0 d c.act_at-act.ensures.small low.more.this (c.this_of-m.ensures ∙ ap (this_at v.bindings.made.now
+    v.bindings.cap) c.this_at.ensures.value) c.look-below.ensures.supered c.look-below.ensures.called c.pass_of-pass.ensures in
     record {
       planned = all.0;
       row_pre = all.1;

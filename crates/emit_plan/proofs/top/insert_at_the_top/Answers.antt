@@ -1,9 +1,11 @@
 -- `emit_plan::top::insert_at_the_top` meets its contract. Assumes nothing.
 use Prim.Native.Nat.{◌+◌, ◌<◌, ◌^◌}
-use mathlib.Core.Path.{sym, subst, ◌∙◌}
+use mathlib.Core.Path.{refl, sym, subst, ◌∙◌}
 use mathlib.Core.Bool.{Bool, cond}
 use lib.Dec.{eqb}
 use Rattle.grammar.specs.Kinds.{Program}
+use Rattle.grammar.specs.declared.kind.Kind.TheVariants as kinds
+use Rattle.grammar.proofs.Listed.{same_kind}
 use Rattle.forest.specs.Forest.{Rows.none, size}
 use Rattle.steps.specs.Slots.{late_body}
 use Rattle.steps.specs.TopInsertion.{var_first}
@@ -16,12 +18,14 @@ use Rattle.emit_plan.proofs.top.insert_at_the_top.Goals as goal
 
 pub insert_variable_statement_at_the_top_of_statements-requires : goal.insert_variable_statement_at_the_top_of_statements-requires
 insert_variable_statement_at_the_top_of_statements-requires c =
-    rw (c.eq-late.ensures ∙ slot_same c.args.slot LateBody) (subst (λ (y : Bool). c.args.at + size (cond y (var_first (frame_decls c.args.walk.bindings.made.now
-    c.args.walk.bindings.cap c.args.walk.bindings.count c.args.frame (eqb c.args.kind Program) (eqb (slot_number c.args.slot) late_body)) none) none) < 2 ^ 32)
+    rw (c.eq-guarded.ensures ∙ same_kind c.args.kind _ kinds.Program c.from.ensures refl, c.eq-late.ensures ∙ slot_same c.args.slot LateBody)
+    (subst (λ (y : Bool). c.args.w.now.at + size (cond y (var_first (frame_decls c.args.walk.now.bindings.made.now
+    c.args.walk.now.bindings.cap c.args.walk.now.bindings.count c.args.frame (eqb c.args.kind Program) (eqb (slot_number c.args.slot) late_body)) none) none) < 2 ^ 32)
     (sym c.closes-closing.ensures ∙ c.if-closing.true) c.requires.frame_bound)
 
-pub returns-then-closing : goal.returns-then-closing
-returns-then-closing c = rw (sym c.closes-closing.ensures ∙ c.if-closing.true, ← (c.eq-late.ensures ∙ slot_same c.args.slot LateBody)) c.insert_variable_statement_at_the_top_of_statements.ensures
+pub returns-then-closing-clause-rows : goal.returns-then-closing-clause-rows
+returns-then-closing-clause-rows c = rw (sym c.closes-closing.ensures ∙ c.if-closing.true, ← (c.eq-guarded.ensures ∙ same_kind c.args.kind _ kinds.Program c.from.ensures refl), ← (c.eq-late.ensures ∙ slot_same c.args.slot LateBody))
+    c.insert_variable_statement_at_the_top_of_statements.ensures.rows
 
-pub returns : goal.returns
-returns c = rw (sym c.closes-closing.ensures ∙ c.if-closing.false) (nothing c.args.out.now c.args.at)
+pub returns-else-closing-clause-rows : goal.returns-else-closing-clause-rows
+returns-else-closing-clause-rows c = rw (sym c.closes-closing.ensures ∙ c.if-closing.false) (nothing c.args.w.now.rows.now c.args.w.now.at)

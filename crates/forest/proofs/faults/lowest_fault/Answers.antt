@@ -1,9 +1,6 @@
 -- `forest::faults::lowest_fault` meets its contract. Assumes nothing.
-use Rattle.std.specs.Prelude.{Some, None}
-use mathlib.Core.List.{List}
 use Prim.Native.Nat.{ℕ, ◌+◌, ◌<◌, ◌≤◌, ◌%◌}
 use mathlib.Core.Path.{◌≡◌, refl, sym, ap, ◌∙◌}
-use lib.Dec.{ltb, leb}
 use lib.ListN.{get_or, set, length-set}
 use Rattle.names.specs.Words.{words, end_at}
 use Rattle.grammar.specs.Codes.{kind_number}

@@ -1,32 +1,35 @@
 -- `forest::told::tell` meets its contract. Assumes nothing.
-use mathlib.Core.Path.{refl, ◌∙◌}
-use Prim.Native.Nat.{ℕ, ◌+◌, ◌<◌}
-use lib.ListN.{length-set}
+use mathlib.Core.Path.{refl}
+use Prim.Native.Nat.{◌+◌}
+use Rattle.std.proofs.Common.{rules}
 use native.Mathlib.Omega.{arith}
-use borrow.Author.Tests.{ltb-true}
-use Rattle.forest.proofs.Telling.{tell_start, tell-next, tell-last, tell_done}
-use Rattle.names.proofs.Bools.{and_left}
-use Rattle.forest.proofs.Telling.{then-more}
+use lib.ListN.{length}
+use Rattle.names.specs.Words.{words}
+use Rattle.forest.specs.Told.{first_then}
+use Rattle.forest.proofs.Telling.{tell_start, tell-child, tell-fault, tell_done, then-more}
 use Rattle.forest.proofs.told.tell.Goals as goal
 
-pub loop-c-init : goal.loop-c-init
-loop-c-init c = (0, (tell_start _ _ _ _ _ _ refl, refl))
+pub returns-then-e-c0 : goal.returns-then-e-c0
+returns-then-e-c0 c =
+    let ws = words c.args.s.now in
+    let say = first_then c.args.one c.args.more in
+    let told = c.args.told.now in
+    (tell_done ws say c.args.e (length told) c.args.c0 told told c.args.c0 0 (tell_start ws say c.args.e (length told) c.args.c0 told refl) c.if-e-c0.true).each
 
-pub loop-c-smaller : goal.loop-c-smaller
-loop-c-smaller c = let past : c.loop-c.c < c.cell-x.result = ltb-true _ _ (and_left _ _ c.if-c-x.true) in omega arith
+pub loop-row-init : goal.loop-row-init
+loop-row-init c = (0, (tell_start _ _ _ _ _ _ refl, (refl, (refl, refl))))
 
-pub loop-c-preserved : goal.loop-c-preserved
-loop-c-preserved c =
-    (c.loop-c.invariant.0 + 1, (tell-next _ _ _ _ _ _ _ _ _ c.loop-c.invariant.1.0 c.loop-c-test.true c.requires.1.1 _ c.loop-c.invariant.1.1 _ c.cell-x.ensures.0 c.if-c-x.true, then-more _ _ c.loop-c.invariant.0 c.cell-x.result))
+pub loop-row-preserved : goal.loop-row-preserved
+loop-row-preserved c =
+    let i = c.loop-row.invariant.1 in (
+      c.loop-row.invariant.0 + 1,
+      (tell-child _ _ _ _ _ _ _ i.0 c.requires.1.1 refl i.1.1.0 i.1.1.1 c.in-Some.ensures.next i.1.0, (then-more _ _ c.loop-row.invariant.0 c.next.new.self.next, (search rules, search rules))),
+    )
 
-pub shape_of-told-else-c-x : goal.shape_of-told-else-c-x
-shape_of-told-else-c-x c = length-set {A = ℕ} c.loop-c.told c.loop-c.c c.loop-c.value ∙ c.loop-c.invariant.1.0.long
+pub returns-then-children-e : goal.returns-then-children-e
+returns-then-children-e c =
+    let i = c.loop-row.invariant.1 in
+    (tell-fault _ _ _ _ _ _ _ i.0 c.requires.1.1 refl i.1.1.0 i.1.1.1 c.in_default.ensures.next c.if-children-e.true i.1.0).each
 
-pub returns-else-c-x : goal.returns-else-c-x
-returns-else-c-x c = (tell-last _ _ _ _ _ _ _ _ _ c.loop-c.invariant.1.0 c.loop-c-test.true c.requires.1.1 _ c.loop-c.invariant.1.1 _ c.cell-x.ensures.0 c.if-c-x.false).each
-
-pub shape_of-told : goal.shape_of-told
-shape_of-told c = c.loop-c.invariant.1.0.long
-
-pub returns : goal.returns
-returns c = (tell_done _ _ _ _ _ _ _ _ _ c.loop-c.invariant.1.0 c.loop-c-test.false).each
+pub returns-else-children-e : goal.returns-else-children-e
+returns-else-children-e c = let x = c.in_default.ensures.next in (tell_done _ _ _ _ _ _ _ _ _ c.loop-row.invariant.1.0 (omega (arith, x.stays, c.if-children-e.false))).each

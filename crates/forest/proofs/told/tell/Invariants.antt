@@ -7,8 +7,10 @@ use Rattle.forest.specs.Told.{first_then}
 use Rattle.forest.proofs.Telling.{Telling}
 use Rattle.forest.proofs.told.tell.Given as goal
 
-abbrev pub invariant-loop-c : goal.invariant-loop-c
-invariant-loop-c l = (pos : ℕ) × (Telling (words l.s) (first_then l.one l.more) l.e (length l.initial.told) l.c0 l.initial.told l.told l.c pos × (first_then l.one l.more pos l.c ≡ l.value))
+abbrev pub invariant-loop-row : goal.invariant-loop-row
+invariant-loop-row l =
+    (pos : ℕ) × (Telling (words l.s) (first_then l.one l.more) l.e (length l.initial.told) l.c0 l.initial.told l.told l.children.next pos
+    × ((first_then l.one l.more pos l.children.next ≡ l.value) × ((l.children.rows.now ≡ l.s) × (l.children.end ≡ l.e))))
 
-abbrev pub decreases-loop-c : goal.decreases-loop-c
-decreases-loop-c l = l.e - l.c
+abbrev pub decreases-loop-row : goal.decreases-loop-row
+decreases-loop-row l = l.children.end - l.children.next

@@ -13,8 +13,8 @@ over-requires t c =
     let l = c.if-size-checked.true in
     (omega (arith, c.records_in.ensures, c.decreases), omega arith)
 
-pub below-requires-2-clause-bindings_bound : goal.below-requires-2-clause-bindings_bound
-below-requires-2-clause-bindings_bound t c =
+pub below-requires-in_default-clause-bindings_bound : goal.below-requires-in_default-clause-bindings_bound
+below-requires-in_default-clause-bindings_bound t c =
     let s = c.args.checked.script in
     let f = few-entries c.args.checked.sound (names_in s.names.now + records_in s.bindings.now) (omega arith) in
     omega arith

@@ -12,7 +12,7 @@ abbrev pub decreases-leaves : goal.decreases-leaves
 decreases-leaves l = l.end - l.from
 
 abbrev pub invariant-loop-i : goal.invariant-loop-i
-invariant-loop-i l = Leaving (names_of l.names l.text) (switches_of l.switches) (words l.rows) (rows_in l.rows) (place_of l.initial.q) (place_of l.more) l.from l.end l.i (place_of l.q)
+invariant-loop-i l = Leaving (names_of l.names.pairs.now l.names.text.now) (switches_of l.switches) (words l.rows) (rows_in l.rows) (place_of l.initial.q) (place_of l.more) l.from l.end l.i (place_of l.q)
 
 abbrev pub decreases-loop-i : goal.decreases-loop-i
 decreases-loop-i l = l.end - l.i

@@ -9,18 +9,18 @@ use Rattle.names.specs.Words.{words, kind_at}
 use Rattle.refusals.specs.Hits.{hit}
 use Rattle.refusals.proofs.Values.{since_start, since-next, since_end, low-next, hit-high, seven_rows}
 use Rattle.refusals.proofs.firsts.field_in.Goals as goal
-use Rattle.refusals.proofs.firsts.field_in.Goals.{then-k-arrows, else-k-arrows, Joined-k-arrows}
+use Rattle.refusals.proofs.firsts.field_in.Goals.{then-is_hit, else-is_hit, Joined-is_hit}
 
 pub loop-i-init : goal.loop-i-init
 loop-i-init c = since_start _ _ _ _ c.requires.1
 
 -- the lowest hit after row i is looked at
-lowest : (c : Joined-k-arrows) → c.if-k-arrows.hit ≡ cond (hit c.args.arrows (kind_at (words c.args.rows.now) (c.loop-i.i - 1))) (c.loop-i.i - 1) c.loop-i.hit
-lowest c = rw (← c.cell-k.ensures.0) (elim c.if-k-arrows.branch [ then-k-arrows w ↦ rw (w.hit-is, w.if-k-arrows.true) | else-k-arrows w ↦ rw (w.hit-is, w.if-k-arrows.false) ])
+lowest : (c : Joined-is_hit) → c.if-is_hit.hit ≡ cond (hit c.args.arrows (kind_at (words c.args.rows.now) (c.loop-i.i - 1))) (c.loop-i.i - 1) c.loop-i.hit
+lowest c = rw (← c.cell.ensures.0, ← c.is_hit.ensures) (elim c.if-is_hit.branch [ then-is_hit w ↦ rw (w.hit-is, w.if-is_hit.true) | else-is_hit w ↦ rw (w.hit-is, w.if-is_hit.false) ])
 
 pub overflow_cast-next : goal.overflow_cast-next
 overflow_cast-next c =
-    let low = low-next _ _ _ _ _ _ _ _ c.loop-i-test.true c.loop-i.invariant _ (lowest (goal.at.overflow_cast-next c).Joined-k-arrows) in
+    let low = low-next _ _ _ _ _ _ _ _ c.loop-i-test.true c.loop-i.invariant _ (lowest (goal.at.overflow_cast-next c).Joined-is_hit) in
     omega (arith, hit-high (words c.args.rows.now) c.args.arrows (c.args.n - (c.loop-i.i - 1)) (c.loop-i.i - 1))
 
 pub field_holds-requires : goal.field_holds-requires
@@ -29,16 +29,18 @@ field_holds-requires c =
     let inside = c.requires.0.nested.inside (c.loop-i.i - 1) (omega arith) in
     record {
       i_bound = (c.requires.0.nested.ahead _ (omega arith), (omega arith, omega arith));
-      i_in_bounds = omega (arith, length-set {A = ℕ} c.loop-i.next (c.loop-i.i - 1) c.if-k-arrows.hit);
+      i_in_bounds = omega (arith, length-set {A = ℕ} c.loop-i.next (c.loop-i.i - 1) c.if-is_hit.hit);
     }
 
 pub loop-i-preserved : goal.loop-i-preserved
 loop-i-preserved c =
-    since-next _ _ _ _ _ _ _ _ c.loop-i-test.true c.loop-i.invariant c.requires.0.nested (words_long _ (4 * c.args.n) (omega arith)) _ (lowest (goal.at.loop-i-preserved c).Joined-k-arrows) _ c.field_holds.ensures _ (rw c.if-field_holds.false)
+    let low = lowest (goal.at.loop-i-preserved c).Joined-is_hit in
+    since-next _ _ _ _ _ _ _ _ c.loop-i-test.true c.loop-i.invariant c.requires.0.nested (words_long _ (4 * c.args.n) (omega arith)) _ low _ c.field_holds.ensures _ (rw c.if-field_holds.false)
 
 pub loop-i-preserved-then-field_holds : goal.loop-i-preserved-then-field_holds
 loop-i-preserved-then-field_holds c =
-    since-next _ _ _ _ _ _ _ _ c.loop-i-test.true c.loop-i.invariant c.requires.0.nested (words_long _ (4 * c.args.n) (omega arith)) _ (lowest (goal.at.loop-i-preserved-then-field_holds c).Joined-k-arrows) _ c.field_holds.ensures _ (rw c.if-field_holds.true)
+    let low = lowest (goal.at.loop-i-preserved-then-field_holds c).Joined-is_hit in
+    since-next _ _ _ _ _ _ _ _ c.loop-i-test.true c.loop-i.invariant c.requires.0.nested (words_long _ (4 * c.args.n) (omega arith)) _ low _ c.field_holds.ensures _ (rw c.if-field_holds.true)
 
 pub shape_of-next : goal.shape_of-next
 shape_of-next c = c.loop-i.invariant.size

@@ -9,16 +9,13 @@ pub loop-i-init : goal.loop-i-init
 loop-i-init c = seek-start _ _ _
 
 pub binds_arguments-requires : goal.binds_arguments-requires
-binds_arguments-requires c = record {
-  i_bound = (omega arith, omega arith);
-  given_names = c.requires.given_names;
-}
+binds_arguments-requires c = (omega arith, omega arith)
 
 pub returns-then-binds_arguments : goal.returns-then-binds_arguments
-returns-then-binds_arguments c = seek_found _ _ _ _ c.loop-i.invariant (omega arith) (sym c.binds_arguments.ensures ∙ c.if-binds_arguments.true) ∙ eight_rows _ _ _ _ c.requires.given_rows
+returns-then-binds_arguments c = seek_found _ _ _ _ c.loop-i.invariant (omega arith) (sym c.binds_arguments.ensures ∙ c.if-binds_arguments.true) ∙ eight_rows _ _ _ _ c.requires
 
 pub loop-i-preserved : goal.loop-i-preserved
 loop-i-preserved c = seek-next _ _ _ _ c.loop-i.invariant (omega arith) (sym c.binds_arguments.ensures ∙ c.if-binds_arguments.false)
 
 pub returns : goal.returns
-returns c = seek-none _ _ _ _ c.loop-i.invariant (omega arith) ∙ eight_rows _ _ _ _ c.requires.given_rows
+returns c = seek-none _ _ _ _ c.loop-i.invariant (omega arith) ∙ eight_rows _ _ _ _ c.requires

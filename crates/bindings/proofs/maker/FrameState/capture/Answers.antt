@@ -3,8 +3,11 @@ use Prim.Native.Nat.{ℕ, ◌+◌}
 use mathlib.Core.Path.{refl, ap, ◌∙◌}
 use mathlib.Core.List.{List}
 use lib.ListN.{set}
+use Rattle.uses.specs.Uses.{capture_number}
+use Rattle.bindings.specs.Store.{pushed}
 use Rattle.bindings.specs.Filed.{behind}
 use Rattle.bindings.proofs.Filing.{captured-behind}
+use Rattle.bindings.proofs.Uses.{capture-some, capture_low, in_table}
 use Rattle.bindings.proofs.Captures.{capture_kept, capture_room, capture_new}
 use Rattle.bindings.proofs.maker.FrameState.capture.Goals as goal
 
@@ -13,8 +16,9 @@ returns-then-made-table-ne0 c =
     let a = c.args in
     let r = c.requires in
     let t = c.place-table in
+    let at = in_table a.capture _ _ c.eq.ensures t.ensures.0 in
     record {
-      kept = capture_kept a.made.now a.cap a.self.count a.u a.self.row r.asked r.u_nonzero.0 r.u_nonzero.1 t.result t.ensures.0 (λ z. c.if-made-table-ne0.true z);
+      kept = capture_kept a.made.now a.cap a.self.count (capture_number a.capture) a.self.row r (capture-some a.capture) (capture_low a.capture) t.result at (λ z. c.if-made-table-ne0.true z);
       row_value = refl;
       made_unchanged = refl;
     }
@@ -24,8 +28,9 @@ push-requires c =
     let a = c.args in
     let r = c.requires in
     let t = c.place-table in
-    let A = r.asked in
-    let room = capture_room a.made.now a.cap a.self.count a.u a.self.row A r.u_nonzero.0 r.u_nonzero.1 t.result t.ensures.0 c.if-made-table-ne0.false in
+    let at = in_table a.capture _ _ c.eq.ensures t.ensures.0 in
+    let A = r in
+    let room = capture_room a.made.now a.cap a.self.count (capture_number a.capture) a.self.row A (capture-some a.capture) (capture_low a.capture) t.result at c.if-made-table-ne0.false in
     (A.store.long, (room, (A.row_low, A.cap_low)))
 
 pub returns : goal.returns
@@ -33,11 +38,12 @@ returns c =
     let a = c.args in
     let r = c.requires in
     let t = c.place-table in
+    let at = in_table a.capture _ _ c.eq.ensures t.ensures.0 in
     let none = c.if-made-table-ne0.false in
-    let room = capture_room a.made.now a.cap a.self.count a.u a.self.row r.asked r.u_nonzero.0 r.u_nonzero.1 t.result t.ensures.0 none in
-    let put = ap (λ (l : List ℕ). set l t.result (a.self.count + 1)) c.push.ensures in
+    let room = capture_room a.made.now a.cap a.self.count (capture_number a.capture) a.self.row r (capture-some a.capture) (capture_low a.capture) t.result at none in
+    let put = ap (λ (l : List ℕ). set l t.result (a.self.count + 1)) (c.push.ensures ∙ ap (λ (n : ℕ). pushed a.made.now a.cap (a.self.count + 1) n 0 a.self.row) c.from.ensures) in
     record {
-      kept = capture_new a.made.now a.cap a.self.count a.u a.self.row r.asked r.u_nonzero.0 r.u_nonzero.1 t.result t.ensures.0 none _ put;
+      kept = capture_new a.made.now a.cap a.self.count (capture_number a.capture) a.self.row r (capture-some a.capture) (capture_low a.capture) t.result at none _ put;
       row_value = refl;
-      made_unchanged = ap (behind a.cap) put ∙ captured-behind a.made.now a.cap (a.self.count + 1) a.u a.self.row t.result room t.ensures.1;
+      made_unchanged = ap (behind a.cap) put ∙ captured-behind a.made.now a.cap (a.self.count + 1) (capture_number a.capture) a.self.row t.result room t.ensures.1;
     }

@@ -1,8 +1,9 @@
 -- `bindings::maker::FrameState::close` meets its contract. Assumes nothing.
 use Prim.Native.Nat.{ℕ, ◌<◌}
-use mathlib.Core.Path.{refl, ap, sym, subst, ◌∙◌}
-use mathlib.Core.List.{◌++◌}
+use mathlib.Core.Path.{◌≡◌, refl, ap, sym, subst, ◌∙◌}
+use mathlib.Core.List.{List, ◌++◌}
 use lib.ListN.{length, get_or}
+use Rattle.steps.specs.Bindings.{Binding}
 use Rattle.bindings.specs.Search.{params_for}
 use Rattle.bindings.specs.Store.{binds}
 use Rattle.bindings.proofs.Closing.{closing_start, closing-room, closing-next, closing-less, closing-done}
@@ -51,14 +52,16 @@ overflow_add-cap-in-loop-b-2 c = let low = c.loop-b.invariant.0.low in let st = 
 pub entry-b-requires-in-loop-b : goal.entry-b-requires-in-loop-b
 entry-b-requires-in-loop-b c = let low = c.loop-b.invariant.0.low in let st = c.loop-b.invariant.0.store in let A = c.requires in let room = A.store.room in let l = c.add_params-total.ensures.kept.store.long in omega arith
 
+-- the bindings that a turn leaves, by the words that it has read
+as_read : (before : List Binding) {after : List Binding} {u x u' x' : ℕ} (row : ℕ) → after ≡ before ++ params_for u x row → u ≡ u' → x ≡ x' → after ≡ before ++ params_for u' x' row
+as_read before row list p q = list ∙ rw (p, q)
+
 pub loop-b-smaller : goal.loop-b-smaller
 loop-b-smaller c =
     let a = c.args in
     let g = c.loop-b in
     let kept = c.add_params-total.ensures.kept in
-    let by-u = ap (λ (n : ℕ). binds g.made a.cap g.total ++ params_for n c.entry-x.result a.self.row) c.entry-u.ensures in
-    let by-x = ap (λ (n : ℕ). binds g.made a.cap g.total ++ params_for (get_or g.made g.b 0) n a.self.row) c.entry-x.ensures in
-    let list = kept.list ∙ by-u ∙ by-x in
+    let list = as_read (binds g.made a.cap g.total) a.self.row kept.list c.entry-u.ensures c.entry-x.ensures in
     closing-less a.made.now a.cap a.self.count a.self.row g.made g.total g.b g.invariant.0 c.loop-b-test.true _ _ kept.store list _ c.entry-b-in-loop-b.ensures
 
 pub loop-b-preserved : goal.loop-b-preserved
@@ -66,9 +69,7 @@ loop-b-preserved c =
     let a = c.args in
     let g = c.loop-b in
     let kept = c.add_params-total.ensures.kept in
-    let by-u = ap (λ (n : ℕ). binds g.made a.cap g.total ++ params_for n c.entry-x.result a.self.row) c.entry-u.ensures in
-    let by-x = ap (λ (n : ℕ). binds g.made a.cap g.total ++ params_for (get_or g.made g.b 0) n a.self.row) c.entry-x.ensures in
-    let list = kept.list ∙ by-u ∙ by-x in
+    let list = as_read (binds g.made a.cap g.total) a.self.row kept.list c.entry-u.ensures c.entry-x.ensures in
     let next = closing-next a.made.now a.cap a.self.count a.self.row g.made g.total g.b g.invariant.0 c.loop-b-test.true _ _ kept.store list _ c.entry-b-in-loop-b.ensures in
     (next, c.add_params-total.ensures.made_unchanged ∙ g.invariant.1)
 

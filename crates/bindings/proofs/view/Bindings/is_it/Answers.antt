@@ -8,9 +8,9 @@ pub returns-then-self-b : goal.returns-then-self-b
 returns-then-self-b c = other_frame _ _ _ _ _ _ _ (λ z. c.if-self-b.true z)
 
 pub returns-then-self-b-2 : goal.returns-then-self-b-2
-returns-then-self-b-2 c = other_use _ _ _ _ _ _ _ (λ z. c.if-self-b-2.true z)
+returns-then-self-b-2 c = rw (← c.access_word.ensures) (other_use _ _ _ _ _ _ _ (λ z. c.if-self-b-2.true z))
 
 pub returns : goal.returns
 unfolding same_as
 returns c =
-    c.same_name.ensures ∙ same_frame_use _ _ _ _ _ _ _ c.if-self-b.false c.if-self-b-2.false
+    rw (← c.access_word.ensures) (c.same_name.ensures ∙ same_frame_use _ _ _ _ _ _ _ c.if-self-b.false c.if-self-b-2.false)

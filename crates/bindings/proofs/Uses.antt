@@ -1,0 +1,45 @@
+-- Captures and accessors by the numbers of their uses. Assumes nothing.
+use mathlib.Core.Path.{◌≡◌, refl, subst, ◌∙◌}
+use mathlib.Core.Bool.{Bool, true, cond}
+use mathlib.Core.List.{List, [], ◌∷◌, ◌++◌}
+use Prim.Native.Nat.{ℕ, ◌<◌, ◌≤◌}
+use native.Mathlib.Omega.{arith}
+use lib.Dec.{eqb}
+use denote.Enum.Bare.{sameb}
+use Rattle.uses.specs.Uses.{capture_number, access_number}
+use Rattle.uses.specs.declared.Capture.{Capture}
+use Rattle.uses.specs.declared.Capture.TheVariants.{This, Arguments}
+use Rattle.uses.specs.declared.Access.{Access}
+use Rattle.uses.specs.declared.Access.TheVariants.{Get, Set}
+use Rattle.uses.specs.contracts.Capture.{the_type as capture_type}
+use Rattle.steps.specs.Bindings.{Binding, Binding.bind}
+use Rattle.bindings.specs.Search.{is_accessor, one_param}
+use Rattle.bindings.specs.Post.{Kept}
+
+pub capture-some : (u : Capture) → 0 < capture_number u
+capture-some This = omega arith
+capture-some Arguments = omega arith
+
+pub capture_low : (u : Capture) → capture_number u ≤ 2
+capture_low This = omega arith
+capture_low Arguments = omega arith
+
+pub capture_this : (u : Capture) → sameb capture_type u This ≡ eqb (capture_number u) 1
+capture_this This = refl
+capture_this Arguments = refl
+
+-- the table of a capture, by the test of the code
+pub in_table : (u : Capture) (x y : ℕ) {b : Bool} {r : ℕ} → b ≡ sameb capture_type u This → r ≡ cond b x y → r ≡ cond (eqb (capture_number u) 1) x y
+in_table u x y {b} {r} e q = subst (λ (t : Bool). r ≡ cond t x y) (e ∙ capture_this u) q
+
+-- a binding by the number of its use
+pub noted : {M : List ℕ} {cap count n m : ℕ} (before : List Binding) (x f : ℕ) → n ≡ m → Kept M cap (before ++ (bind n x f ∷ [])) count → Kept M cap (before ++ (bind m x f ∷ [])) count
+noted before x f q k = rw (← q) k
+
+-- and a parameter that is wanted by it
+pub wanted_by : {M : List ℕ} {cap count n m : ℕ} (before : List Binding) (u f : ℕ) → n ≡ m → Kept M cap (before ++ one_param (eqb u n) 6 f) count → Kept M cap (before ++ one_param (eqb u m) 6 f) count
+wanted_by before u f q k = rw (← q) k
+
+pub is-access : (u : Access) → is_accessor (access_number u) ≡ true
+is-access Get = refl
+is-access Set = refl
