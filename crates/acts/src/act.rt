@@ -37,7 +37,8 @@ pub struct Act<Q> {
     pub more: Q,
 }
 
-// The words of a row.
+// The words of a row, as the table has them: a row that stays is handed on with its kind, whatever number that is, and what is
+// promised is so for each. A `Kind` would lose the numbers of no list.
 #[derive(Clone, Copy)]
 pub struct Words {
     pub kind: usize,

@@ -1,5 +1,5 @@
 -- The request's numbers for each answer of `convert` (docs/FORMAT.md, "Converting"). "Every refusal has zero counts"; "An acceptance has number 0, place 0". Assumes nothing.
-use Rattle.std.specs.Prelude.{ℕ, Result, Ok, Err}
+use Rattle.std.specs.Prelude.{ℕ, Result}
 use Rattle.names.specs.Answered.{if_refused, if_accepted}
 use Rattle.rows.specs.Refusals as checks
 use Rattle.refusals.specs.Refused as turns

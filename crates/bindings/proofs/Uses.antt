@@ -1,10 +1,11 @@
 -- Captures and accessors by the numbers of their uses. Assumes nothing.
 use mathlib.Core.Path.{◌≡◌, refl, subst, ◌∙◌}
-use mathlib.Core.Bool.{Bool, true, cond}
+use mathlib.Core.Bool.{Bool, true, false, cond}
 use mathlib.Core.List.{List, [], ◌∷◌, ◌++◌}
-use Prim.Native.Nat.{ℕ, ◌<◌, ◌≤◌}
+use Prim.Native.Nat.{ℕ, ◌+◌, ◌*◌, ◌<◌, ◌≤◌}
 use native.Mathlib.Omega.{arith}
 use lib.Dec.{eqb}
+use lib.ListN.{get_or}
 use denote.Enum.Bare.{sameb}
 use Rattle.uses.specs.Uses.{capture_number, access_number}
 use Rattle.uses.specs.declared.Capture.{Capture}
@@ -14,6 +15,7 @@ use Rattle.uses.specs.declared.Access.TheVariants.{Get, Set}
 use Rattle.uses.specs.contracts.Capture.{the_type as capture_type}
 use Rattle.steps.specs.Bindings.{Binding, Binding.bind}
 use Rattle.bindings.specs.Search.{is_accessor, one_param}
+use Rattle.bindings.specs.Store.{capture_at}
 use Rattle.bindings.specs.Post.{Kept}
 
 pub capture-some : (u : Capture) → 0 < capture_number u
@@ -27,6 +29,14 @@ capture_low Arguments = omega arith
 pub capture_this : (u : Capture) → sameb capture_type u This ≡ eqb (capture_number u) 1
 capture_this This = refl
 capture_this Arguments = refl
+
+-- a capture that is asked for by any number is that of the number's Capture
+pub captured_by : (M : List ℕ) (c n f : ℕ) → capture_at M c (cond (eqb n 1) 1 2) f ≡ capture_at M c n f
+captured_by M c n f = go (eqb n 1)
+  where
+    go : (b : Bool) → get_or M (cond (eqb (cond b 1 2) 1) (4 * c + f) (5 * c + f)) 0 ≡ get_or M (cond b (4 * c + f) (5 * c + f)) 0
+    go true = refl
+    go false = refl
 
 -- the table of a capture, by the test of the code
 pub in_table : (u : Capture) (x y : ℕ) {b : Bool} {r : ℕ} → b ≡ sameb capture_type u This → r ≡ cond b x y → r ≡ cond (eqb (capture_number u) 1) x y

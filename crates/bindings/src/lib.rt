@@ -47,8 +47,8 @@ const BUCKETS: usize = RECORD + 7;
 // How many tables there are: the array has TABLES * cap words.
 pub const TABLES: usize = BUCKETS + 2;
 
-// Word j of the array.
-fn entry(made: &[u32], j: usize) -> usize
+// Word j of the array, of one too that no `Maker` has made.
+pub fn entry(made: &[u32], j: usize) -> usize
     requires { j < length made.now }
     ensures { result ≡ get_or made.now j 0 }
 {

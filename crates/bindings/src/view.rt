@@ -1,5 +1,6 @@
 // The bindings that are made, to be read: the lent array, and how many it holds. What stands where in the
-// array is known here and in `maker` alone. A number that is 0 says that there is none.
+// array is known here and in `maker` alone. A number that is 0 says that there is none, as in the array:
+// an Option would only turn that 0 back and forth.
 ghost use Rattle.std.specs.Prelude.{◌≡◌, ℕ, ◌+◌, ◌*◌, ◌<◌, ◌≤◌, true, false, get_or};
 ghost use Rattle.uses.specs.Uses.{access_number};
 ghost use Rattle.steps.specs.Outcome.{names_of};

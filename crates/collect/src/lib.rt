@@ -169,8 +169,8 @@ pub fn collect(
 {
     let mut i = from;
     let mut q = one;
-    // A loop by hand: each row's end is read for what stands inside it, and so tells where the next one starts; forest's `Children`
-    // would read and test it once more, and be no plainer.
+    // A loop by hand: the place changes from the first row to the later ones, and `end` of a row is its children's end too; forest's
+    // `Children`, with its field `next` in the place of `stop`, would take as many lines, and be no plainer.
     while i < end {
         let stop = end_at(rows, i);
         collect_row(rows, names, switches, q, i, stop, maker);

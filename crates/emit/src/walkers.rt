@@ -43,8 +43,8 @@ pub fn list(walk: &Walk<'_, '_>, siblings: Siblings, w: &mut Writer<'_>)
     let mut i = siblings.from;
     let mut q = siblings.one;
     let mut state = siblings.state;
-    // A loop by hand: what is written of each row tells where it ends, and so where the next one starts; forest's `Children` would
-    // read and test its end once more, and be no plainer.
+    // A loop by hand: place and state change from row to row, and a row's end is its children's end too; forest's `Children`, with its
+    // field `next` in the place of it, would take as many lines, and be no plainer.
     while i < end {
         let node = Node {
             rows: walk.rows,

@@ -26,7 +26,8 @@ use plan::late::is_late;
 use plan::place::Place;
 use plan::stays::stays;
 
-// Statements, and a Var's Declarators.
+// Statements, and a Var's Declarators. Here and below a kind is the number of a plan's words. These sets are functions of their own: one
+// over a set would take the same list at each call, and be no plainer.
 pub fn is_statement(kind: usize) -> bool
     ensures { result ≡ is_statement kind }
 {

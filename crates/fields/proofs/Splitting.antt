@@ -88,6 +88,19 @@ module _ (b : ℕ) where
         go true h k = absurd (none_some (sym k))
         go false h k = omega (arith, ltb-false _ _ h, first_is s, upto_low s)
 
+  upto_whole : (s : List ℕ) → length (up_to b s) ≡ length s → up_to b s ≡ s
+  unfolding up_to
+  upto_whole [] h = refl
+  upto_whole (c ∷ s) h = go (eqb c b) refl (upto_whole s)
+    where
+      go : (t : Bool) → eqb c b ≡ t → (length (up_to b s) ≡ length s → up_to b s ≡ s) → up_to b (c ∷ s) ≡ c ∷ s
+      go true q ih = absurd (omega (arith, h, ap length (upto_yes c s q)))
+      go false q ih = upto_no c s q ∙ ap (λ (l : List ℕ). c ∷ l) (ih (omega (arith, h, ap length (upto_no c s q))))
+
+  past : (x y : List ℕ) → y ≡ drop (suc (length x)) (x ++ (b ∷ y))
+  past [] y = refl
+  past (c ∷ x) y = past x y
+
   split-parted : (last : List (List ℕ)) (x y : List ℕ) → up_to b (x ++ (b ∷ y)) ≡ x → split b last (x ++ (b ∷ y)) ≡ x ∷ split b last y
   unfolding split push
   split-parted last [] y h = rw (eq-eqb b b refl)
@@ -129,11 +142,11 @@ module _ (b : ℕ) where
 pub lined : {s x y : List ℕ} → Parted 10 s x y → Lined s x y
 lined {s} {x} {y} p =
     let n : length s ≡ length x + suc (length y) = ap length p.whole ∙ length-append x (10 ∷ y) in
-    record { first = parts 10 [] p; shorter = omega arith; fits = omega arith }
+    record { before = p.before; behind = rw (p.whole, add-one) (past 10 x y); first = parts 10 [] p; shorter = omega arith; fits = omega arith }
 
 pub last_lined : (s : List ℕ) → 0 < length s → length (up_to 10 s) ≡ length s → Lined s s []
 unfolding split
-last_lined s z h = record { first = line_whole 10 s z h; shorter = z; fits = omega arith }
+last_lined s z h = record { before = upto_whole 10 s h; behind = sym (drop_all (length s + 1) s (omega arith)); first = line_whole 10 s z h; shorter = z; fits = omega arith }
 
 pub lined_or : (s e : Bor (List ℕ)) → e.now ≡ [] → 0 < length s.now → (r : Option (Bor (List ℕ) × Bor (List ℕ)))
     → MatchOption r (length (up_to 10 s.now) ≡ length s.now) (λ p. Parted 10 s.now p.0.now p.1.now) → MatchOption (option_or r (Some (s, e))) (s.now ≡ []) (λ p. Lined s.now p.0.now p.1.now)

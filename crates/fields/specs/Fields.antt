@@ -1,5 +1,5 @@
 -- Lines, their fields, and the numbers in them: "Fields are decimal u32 without leading zeros, one space apart". Assumes nothing.
-use Rattle.std.specs.Prelude.{Bool, true, false, cond, ◌&&◌, ◌||◌, List, [], ◌∷◌, ◌++◌, ◌≡◌, ℕ, ◌+◌, ◌*◌, ◌-◌, ◌≤◌, ◌<◌, length, get_or, ltb, eqb, Option, None, Some}
+use Rattle.std.specs.Prelude.{Bool, true, false, cond, ◌&&◌, ◌||◌, List, [], ◌∷◌, ◌++◌, ◌≡◌, ℕ, ◌+◌, ◌*◌, ◌-◌, ◌≤◌, ◌<◌, length, drop, get_or, ltb, eqb, Option, None, Some}
 use Rattle.fields.specs.declared.Row.{Row}
 
 -- a byte before the first of some parts
@@ -30,8 +30,10 @@ pub record Parted (b : ℕ) (s x y : List ℕ) : Type 0 where
   pub before : up_to b s ≡ x
   pub whole : s ≡ x ++ (b ∷ y)
 
--- x is the first line of s, and the lines behind it are those of y
+-- x is the first line of s, up to its newline or to the end, and y is all that stands behind it, whose lines are those behind the first
 pub record Lined (s x y : List ℕ) : Type 0 where
+  pub before : up_to 10 s ≡ x
+  pub behind : y ≡ drop (length x + 1) s
   pub first : lines s ≡ x ∷ lines y
   pub shorter : length y < length s
   pub fits : length x + length y ≤ length s

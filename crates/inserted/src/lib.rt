@@ -12,29 +12,6 @@ ghost use Rattle.output.specs.Held.{Puts};
 use grammar::kind::Kind;
 use output::writer::Writer;
 
-// The kinds of the rows that are put in, as numbers: named, so that a call with two kinds is one line.
-const DECLARATOR: u32 = Kind::Declarator as u32;
-
-const THIS: u32 = Kind::This as u32;
-
-const SUPER: u32 = Kind::Super as u32;
-
-const IDENT: u32 = Kind::Ident as u32;
-
-const MEMBER: u32 = Kind::Member as u32;
-
-const COMPUTED: u32 = Kind::Computed as u32;
-
-const ASSIGN: u32 = Kind::Assign as u32;
-
-const ARROW: u32 = Kind::Arrow as u32;
-
-const PARAMS: u32 = Kind::Params as u32;
-
-const ARGUMENTS: u32 = Kind::Arguments as u32;
-
-const TARGET: u32 = Kind::Target as u32;
-
 // `captured = this`, where `b` is the number of the binding.
 pub fn assignment(w: &mut Writer<'_>, b: u32)
     requires { w.old.at + 4 < 2 ^ 32 }
@@ -42,9 +19,9 @@ pub fn assignment(w: &mut Writer<'_>, b: u32)
     ensures rows { Puts w.old (assignment b) w.new }
 {
     let row = w.at;
-    w.append(ASSIGN, 0, 0, 0);
-    w.nested(TARGET, 0, 0, IDENT, 1, b);
-    w.leaf(THIS, 0, 0);
+    w.append(Kind::Assign as u32, 0, 0, 0);
+    w.nested(Kind::Target as u32, 0, 0, Kind::Ident as u32, 1, b);
+    w.leaf(Kind::This as u32, 0, 0);
     w.close(row);
 }
 
@@ -58,9 +35,9 @@ pub fn this_declarator(w: &mut Writer<'_>, b: u32, late: bool)
         return;
     }
     if late {
-        return w.leaf(DECLARATOR, 1, b);
+        return w.leaf(Kind::Declarator as u32, 1, b);
     }
-    w.nested(DECLARATOR, 1, b, THIS, 0, 0);
+    w.nested(Kind::Declarator as u32, 1, b, Kind::This as u32, 0, 0);
 }
 
 // The Declarator of the captured `arguments`, guarded at Program; none where `b` is 0.
@@ -73,9 +50,9 @@ pub fn arguments_declarator(w: &mut Writer<'_>, b: u32, guarded: bool)
         return;
     }
     if guarded {
-        return w.nested(DECLARATOR, 1, b, ARGUMENTS, 1, 0);
+        return w.nested(Kind::Declarator as u32, 1, b, Kind::Arguments as u32, 1, 0);
     }
-    w.nested(DECLARATOR, 1, b, ARGUMENTS, 0, 0);
+    w.nested(Kind::Declarator as u32, 1, b, Kind::Arguments as u32, 0, 0);
 }
 
 // `super.p`, where `x` is the number of p's name, or `super[prop]` where `x` is 0 and prop is binding `b`.
@@ -86,12 +63,12 @@ pub fn access_row(w: &mut Writer<'_>, x: u32, b: u32)
 {
     if x == 0 {
         let row = w.at;
-        w.append(COMPUTED, 0, 0, 0);
-        w.leaf(SUPER, 0, 0);
-        w.leaf(IDENT, 1, b);
+        w.append(Kind::Computed as u32, 0, 0, 0);
+        w.leaf(Kind::Super as u32, 0, 0);
+        w.leaf(Kind::Ident as u32, 1, b);
         return w.close(row);
     }
-    w.nested(MEMBER, 0, x, SUPER, 0, 0);
+    w.nested(Kind::Member as u32, 0, x, Kind::Super as u32, 0, 0);
 }
 
 // The Declarator of a param, where there is one.
@@ -101,7 +78,7 @@ fn param_if(w: &mut Writer<'_>, yes: bool, b: u32)
     ensures rows { Puts w.old (param_if yes b) w.new }
 {
     if yes {
-        w.leaf(DECLARATOR, 1, b);
+        w.leaf(Kind::Declarator as u32, 1, b);
     }
 }
 
@@ -112,7 +89,7 @@ fn params_row(w: &mut Writer<'_>, usage: u32, property: u32, prop: u32, value: u
     ensures rows { Puts w.old (params_row usage property prop value) w.new }
 {
     let row = w.at;
-    w.append(PARAMS, 0, 0, 0);
+    w.append(Kind::Params as u32, 0, 0, 0);
     param_if(w, property == 0, prop);
     param_if(w, usage == 4, value);
     w.close(row);
@@ -126,12 +103,12 @@ fn body_row(w: &mut Writer<'_>, usage: u32, property: u32, prop: u32, value: u32
 {
     if usage == 4 {
         let row = w.at;
-        w.append(ASSIGN, 0, 0, 0);
+        w.append(Kind::Assign as u32, 0, 0, 0);
         let target = w.at;
-        w.append(TARGET, 0, 0, 0);
+        w.append(Kind::Target as u32, 0, 0, 0);
         access_row(w, property, prop);
         w.close(target);
-        w.leaf(IDENT, 1, value);
+        w.leaf(Kind::Ident as u32, 1, value);
         return w.close(row);
     }
     access_row(w, property, prop);
@@ -145,7 +122,7 @@ pub fn accessor(w: &mut Writer<'_>, usage: u32, property: u32, prop: u32, value:
     ensures rows { Puts w.old (accessor_of usage property prop value) w.new }
 {
     let row = w.at;
-    w.append(ARROW, 2, 0, 0);
+    w.append(Kind::Arrow as u32, 2, 0, 0);
     params_row(w, usage, property, prop, value);
     body_row(w, usage, property, prop, value);
     w.close(row);
@@ -165,7 +142,7 @@ pub fn accessor_declarator(
     ensures rows { Puts w.old (accessor_decl b usage property prop value) w.new }
 {
     let row = w.at;
-    w.append(DECLARATOR, 1, b, 0);
+    w.append(Kind::Declarator as u32, 1, b, 0);
     accessor(w, usage, property, prop, value);
     w.close(row);
 }

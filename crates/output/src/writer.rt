@@ -22,7 +22,7 @@ pub fn new<'a>(rows: &'a mut [u8], at: usize) -> Writer<'a>
 }
 
 impl Writer<'_> {
-    // A row is appended.
+    // A row is appended. Its kind is a number: a row that stays is written with the word that the table has.
     pub fn append(&mut self, kind: u32, attr: u32, name: u32, end: u32)
         requires { self.old.at < 2 ^ 32 }
         ensures same_reference { self.new.rows.ghost_name ≡ self.old.rows.ghost_name }

@@ -23,7 +23,7 @@ use uses::{Access, Capture};
 // What becomes of a row.
 #[derive(Clone, Copy)]
 pub enum Becomes {
-    // A row of these words around what its children become.
+    // A row of these words around what its children become: its kind too is handed on as the number that the table has.
     Row {
         kind: usize,
         attr: usize,

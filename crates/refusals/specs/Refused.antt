@@ -1,5 +1,5 @@
 -- Refusals 6, 7 and 8 together, in the order in which they are tested. Assumes nothing.
-use Rattle.std.specs.Prelude.{ℕ, Bool, ◌&&◌, ◌||◌, List, eqb, Result, Ok, Err, Option, Some, None}
+use Rattle.std.specs.Prelude.{ℕ, Bool, ◌&&◌, ◌||◌, List, eqb, Result, Ok}
 use Rattle.grammar.specs.Kinds.{Declarator, Function, Class}
 use Rattle.names.specs.Answered.{unless_found}
 use Rattle.names.specs.Names.{is_arguments}

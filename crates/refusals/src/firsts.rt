@@ -162,10 +162,5 @@ pub fn first_arguments(rows: &[u8], names: &Names<'_>, n: usize) -> Option<usize
     requires { GivenRows rows.now n }
     ensures { result ≡ seek (name_rule names.now.pairs.now names.now.text.now) tt tt 0 (rows_at (words rows.now) 0 n) }
 {
-    for i in 0..n {
-        if binds_arguments(rows, names, i) {
-            return Some(i);
-        }
-    }
-    None
+    (0..n).find(|i| binds_arguments(rows, names, *i))
 }

@@ -1,5 +1,5 @@
 -- Module 9, the first word of a record: "use (1 this, 2 arguments, 3 get, 4 set, 5 prop, 6 value)". Assumes nothing.
-use Rattle.std.specs.Prelude.{◌≡◌, ℕ, Bool, false, ◌&&◌, leb, Result, MatchResult}
+use Rattle.std.specs.Prelude.{◌≡◌, ℕ, false, ◌&&◌, leb, Result, MatchResult}
 use Rattle.uses.specs.declared.Use.{Use}
 use Rattle.uses.specs.declared.Use.TheVariants.{This, Arguments, Get, Set, Prop, Value}
 use Rattle.uses.specs.declared.Capture.{Capture}

@@ -84,14 +84,14 @@ impl From<Access> for Use {
     }
 }
 
-// Of a number that is no capture's: `this`.
+// Of a number that is no capture's: `arguments`, as the code had it when it took numbers.
 impl From<usize> for Capture {
-    ghost from_gives = { λ n capture. capture_number capture ≡ cond (eqb n 2) 2 1 };
+    ghost from_gives = { λ n capture. capture_number capture ≡ cond (eqb n 1) 1 2 };
 
     fn from(n: usize) -> Capture {
         match n {
-            2 => Capture::Arguments,
-            _ => Capture::This,
+            1 => Capture::This,
+            _ => Capture::Arguments,
         }
     }
 }

@@ -1,21 +1,17 @@
 -- `refusals::firsts::first_arguments` meets its contract. Assumes nothing.
-use mathlib.Core.Path.{sym, ◌∙◌}
-use native.Mathlib.Omega.{arith}
-use Rattle.names.proofs.Seeking.{seek-start, seek-next, seek_found, seek-none}
+use Rattle.std.proofs.Common.{◌≡◌, ℕ, true, false, arith, rules, ◌∙◌}
+use Rattle.std.proofs.lemmas.Iterator.{first_from_Range}
+use Rattle.names.specs.Words.{words, kind_at, name_at}
+use Rattle.names.proofs.Seeking.{first_is}
+use Rattle.refusals.specs.Refused.{binds_arguments}
 use Rattle.refusals.proofs.Turning.{eight_rows}
 use Rattle.refusals.proofs.firsts.first_arguments.Goals as goal
 
-pub loop-i-init : goal.loop-i-init
-loop-i-init c = seek-start _ _ _
-
-pub binds_arguments-requires : goal.binds_arguments-requires
-binds_arguments-requires c = (omega arith, omega arith)
-
-pub returns-then-binds_arguments : goal.returns-then-binds_arguments
-returns-then-binds_arguments c = seek_found _ _ _ _ c.loop-i.invariant (omega arith) (sym c.binds_arguments.ensures ∙ c.if-binds_arguments.true) ∙ eight_rows _ _ _ _ c.requires
-
-pub loop-i-preserved : goal.loop-i-preserved
-loop-i-preserved c = seek-next _ _ _ _ c.loop-i.invariant (omega arith) (sym c.binds_arguments.ensures ∙ c.if-binds_arguments.false)
-
 pub returns : goal.returns
-returns c = seek-none _ _ _ _ c.loop-i.invariant (omega arith) ∙ eight_rows _ _ _ _ c.requires
+returns c =
+    let v = c.args.names.now in
+    let ws = words c.args.rows.now in
+    let binds = λ (i : ℕ). binds_arguments v.pairs.now v.text.now (kind_at ws i) (name_at ws i) in
+    first_is binds c.args.n 0 c.args.n c.find.result (omega arith)
+    (first_from_Range _ _ _ _ (λ i. binds i ≡ true) (λ i. binds i ≡ false) c.find.ensures.ran (λ x q h. grind arith) (λ x q h. (search rules, grind arith)))
+    ∙ eight_rows _ _ _ _ c.requires
