@@ -8,9 +8,10 @@ many lines they take in each file, and the structs and enums of the code that th
   believe.py --check    exit status 1 if something else stands there
 
 A word stands for what its file or the `use` lines of its file say, unless it is bound where it stands: by a pattern, a
-λ, a `let` or a binder (x : T). Where that leaves two meanings both are taken. A constructor brings its type. A name of
-ours that is not found, a field that no cited type has, and a line that is not understood end the program with exit
-status 1, so that nothing is left out in silence. The lines of a definition are its own: no comment, no blank, no `use`.
+λ, a `let` or a binder (x : T), before → or ×. Where that leaves two meanings both are taken. A constructor brings its
+type. A name of ours that is not found, a field that no cited type has, and a line that is not understood end the program
+with exit status 1, so that nothing is left out in silence. The lines of a definition are its own: no comment, no blank,
+no `use`.
 """
 import os
 import re
@@ -59,6 +60,7 @@ def text_of(path):
 
 
 def words_of(text):
+    text = re.sub('"[^"]*"', " ", text)             # a text cites nothing
     words = [word.replace("«", "").replace("»", "") for word in WORD.findall(text)]
     return [word for word in (word.rstrip(",") for word in words) if word]     # `(x, y)` is a pair
 
@@ -232,7 +234,7 @@ def cite(item, scope, words, bound):
             count = next((k for k, one in enumerate(after) if one in OPEN | CLOSE | SIGNS), 0)
             if count and after[count] == ":":
                 now.update(after[:count])
-                if (words[closing(words, at) + 1:] + ["→"])[0] not in OPEN | {"→", ":", "where"}:
+                if (words[closing(words, at) + 1:] + ["→"])[0] not in OPEN | {"→", "×", ":", "where"}:
                     item.stop("not understood: (%s : .." % " ".join(after[:count]))
             levels.append((set(now), set(now), words[at - 1] if at else ""))
         elif word in CLOSE:

@@ -4,6 +4,8 @@ use mathlib.Core.Bool.{Bool, true, false, cond, not, ◌&&◌, ◌||◌}
 use Prim.Native.Nat.{ℕ}
 use borrow.Author.Tests.{not-true, not-false}
 use lib.Dec.{eqb}
+use Rattle.std.specs.Prelude.{Some, None}
+use Rattle.std.proofs.lemmas.Option.{cond_some, none-some}
 use Rattle.grammar.specs.Kinds.{This, Super, Ident, Member, Computed, Call, Assign, Arrow, Function, Method, Field, StaticBlock, Property, Target}
 use Rattle.forest.specs.Forest.{Rows}
 use Rattle.steps.specs.Mode.{Switches, bit, enabled, async_only}
@@ -13,6 +15,7 @@ use Rattle.steps.specs.Slots.{free, of_method, body_of, late_body, wrapped, of_t
 use Rattle.steps.specs.Super.{first_super, first_access, first_name, first_inside}
 use Rattle.steps.specs.Acts.{Ctx, Op, Op.row, Op.drop, Op.name, Op.call, by, does, act_of, act, kind_of, Kind, Act as StepsAct}
 use Rattle.steps.specs.Context.{enter}
+use Rattle.below.specs.Below.{property_of}
 use Rattle.passes.specs.View.{op_of, slot_number}
 use Rattle.passes.specs.declared.slots.Slot.{Slot}
 use Rattle.passes.specs.declared.slots.Slot.TheVariants.{Free}
@@ -50,6 +53,12 @@ neither false s e = refl
 either : (y s : Bool) → (not y || s) ≡ false → (y && not s) ≡ true
 either true s e = ap not e
 either false s e = sym e
+
+-- no property is read, whether `super` is taken or not
+unread : (t b : Bool) (x : ℕ) → None ≡ cond b (Some x) None → (t && b) ≡ false
+unread true true x p = absurd (none-some x p)
+unread true false x p = refl
+unread false b x p = refl
 
 cond_same : (x : Bool) → cond x free free ≡ free
 cond_same true = refl
@@ -104,14 +113,17 @@ module _ (N : Names) (w : Switches) (l : Bool) (c : Ctx) (sl o k a n : ℕ) (i :
     unfolding act_of
     call-no e = let h : (c.takes_super && first_access i) ≡ false = rw (← p) e in rw h
 
-  module _ (access : Bool) (x : ℕ) (p : access ≡ first_access (first_inside i)) (q : x ≡ first_name (first_inside i)) where
-    pub assign-yes : (c.takes_super && access) ≡ true → act_of N w l c sl o Kind.assign k a n i ≡ does (call 4 c.super_at x false) (by along dropped) (by along free)
-    unfolding act_of
-    assign-yes e = let h : (c.takes_super && first_access (first_inside i)) ≡ true = rw (← p) e in rw (h, q)
+  pub assign-yes : {x : ℕ} → Some x ≡ property_of (first_inside i) → c.takes_super ≡ true → act_of N w l c sl o Kind.assign k a n i ≡ does (call 4 c.super_at x false) (by along dropped) (by along free)
+  unfolding act_of
+  assign-yes {x} p t = let h = cond_some (first_access (first_inside i)) (first_name (first_inside i)) x (sym p) in rw (t, h.0, h.1)
 
-    pub assign-no : (c.takes_super && access) ≡ false → act_of N w l c sl o Kind.assign k a n i ≡ does (row k a n) (by along free) (by along free)
-    unfolding act_of
-    assign-no e = let h : (c.takes_super && first_access (first_inside i)) ≡ false = rw (← p) e in rw h
+  pub assign-unmoved : c.takes_super ≡ false → act_of N w l c sl o Kind.assign k a n i ≡ does (row k a n) (by along free) (by along free)
+  unfolding act_of
+  assign-unmoved t = rw t
+
+  pub assign-no : None ≡ property_of (first_inside i) → act_of N w l c sl o Kind.assign k a n i ≡ does (row k a n) (by along free) (by along free)
+  unfolding act_of
+  assign-no p = let h = unread c.takes_super (first_access (first_inside i)) (first_name (first_inside i)) p in rw h
 
   pub target_yes : eqb sl dropped ≡ true → act_of N w l c sl o Kind.target k a n i ≡ does drop (by along dropped) (by along free)
   unfolding act_of

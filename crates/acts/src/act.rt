@@ -5,9 +5,9 @@ ghost use Rattle.grammar.specs.Kinds.{Method};
 ghost use Rattle.forest.specs.Forest.{Rows};
 ghost use Rattle.steps.specs.Mode.{Switches as Target, async_only, bit};
 ghost use Rattle.steps.specs.Naming.{Names, named_arguments};
-ghost use Rattle.steps.specs.Super.{first_super, first_access, first_name, first_inside};
+ghost use Rattle.steps.specs.Super.{first_super, first_access, first_inside};
 ghost use Rattle.steps.specs.Acts.{act_of, act, Op, Kind as RuleKind};
-ghost use Rattle.below.specs.Below.{Seen};
+ghost use Rattle.below.specs.Below.{property_of, Seen};
 ghost use Rattle.passes.specs.View.{op_of, slot_number};
 ghost use Rattle.passes.specs.declared.slots.Slot.TheVariants.{Free};
 ghost use Rattle.acts.specs.View.{switches_of, context_of};
@@ -19,7 +19,7 @@ use below::Below;
 use grammar::kind::Kind;
 use passes::Becomes;
 use passes::slots::Slot;
-use steps::has_bit;
+use steps::{has_bit, holds_method};
 use uses::{Access, Capture};
 
 // Where a row is.
@@ -68,7 +68,7 @@ fn along(op: Becomes, context: Context, slot: Slot) -> Act<Spot>
 }
 
 // The row stays.
-fn kept(row: Words) -> Becomes
+pub fn kept(row: Words) -> Becomes
     ensures { op_of result ≡ Op.row row.kind row.attr row.name }
 {
     Becomes::Row {
@@ -152,22 +152,24 @@ fn on_call(q: Spot, row: Words, access: bool) -> Act<Spot>
     along(kept(row), context, Slot::Free)
 }
 
-// Module 4: an assignment. `access`: its Target's child is `super.p` or `super[k]`, of that property.
-fn on_assign(q: Spot, row: Words, access: bool, property: usize) -> Act<Spot>
-    ensures { (N : Names) (w : Target) (l : Bool) (o : ℕ) (i : Rows) → access ≡ first_access (first_inside i) → property ≡ first_name (first_inside i)
+// Module 4: an assignment. `property`: that of its Target's child, where that is `super.p` or `super[k]`.
+fn on_assign(q: Spot, row: Words, property: Option<usize>) -> Act<Spot>
+    ensures { (N : Names) (w : Target) (l : Bool) (o : ℕ) (i : Rows) → property ≡ property_of (first_inside i)
         → Does w (context_of q.context) (act_of N w l (context_of q.context) (slot_number q.slot) o RuleKind.assign row.kind row.attr row.name i) result }
 {
     let context = q.context;
-    if context.takes_super & access {
-        let op = Becomes::Call {
-            usage: Access::Set,
-            frame: context.super_at,
-            property,
-            called: false,
-        };
-        return along(op, context, Slot::Dropped);
+    match property {
+        Some(property) if context.takes_super => {
+            let op = Becomes::Call {
+                usage: Access::Set,
+                frame: context.super_at,
+                property,
+                called: false,
+            };
+            along(op, context, Slot::Dropped)
+        }
+        _ => along(kept(row), context, Slot::Free),
     }
-    along(kept(row), context, Slot::Free)
 }
 
 // Module 4: the Target of an assignment that is rewritten falls away. Like `on_super` but for its kind and where its child stands:
@@ -226,20 +228,13 @@ pub fn on_function(q: Spot, row: Words, switches: Switches, at: usize, late: boo
     inside(kept(row), params, Slot::Free, body, Slot::BodyOf)
 }
 
-// "Method-like: last child of a Method, or of a Property with bit 1."
-fn holds_method(row: Words) -> bool
-    ensures { result ≡ (eqb row.kind Method || bit 2 row.attr) }
-{
-    matches!(Kind::from(row.kind), Kind::Method) | has_bit(2, row.attr)
-}
-
-// A Method or Property: "Method-like: last child of a Method, or of a Property with bit 1."
-fn on_keyed(q: Spot, row: Words) -> Act<Spot>
-    ensures { (N : Names) (w : Target) (l : Bool) (o : ℕ) (i : Rows) → Does w (context_of q.context) (act_of N w l (context_of q.context) (slot_number q.slot) o RuleKind.keyed row.kind row.attr row.name i) result }
+// A Method or Property. `method`: its last child is method-like.
+fn on_keyed(q: Spot, row: Words, method: bool) -> Act<Spot>
+    ensures { (N : Names) (w : Target) (l : Bool) (o : ℕ) (i : Rows) → method ≡ (eqb row.kind Method || bit 2 row.attr) → Does w (context_of q.context) (act_of N w l (context_of q.context) (slot_number q.slot) o RuleKind.keyed row.kind row.attr row.name i) result }
 {
     let context = q.context;
     let keyed = has_bit(1, row.attr);
-    if !holds_method(row) {
+    if !method {
         return inside(kept(row), context, Slot::Free, context, Slot::Free);
     }
     if keyed {
@@ -283,16 +278,17 @@ pub fn decide(
     ensures { (N : Names) (i : Rows) → Seen i below → (row.kind ≡ 11 → arguments ≡ named_arguments N row.name)
         → Does (switches_of switches) (context_of q.context) (act N (switches_of switches) late (context_of q.context) (slot_number q.slot) at row.kind row.attr row.name i) result }
 {
-    match Kind::from(row.kind) {
+    let kind = Kind::from(row.kind);
+    match kind {
         Kind::This => on_this(q, row),
         Kind::Super => on_super(q, row),
         Kind::Ident => on_ident(q, row, switches.is_async_only(), arguments),
         Kind::Member | Kind::Computed => on_access(q, row, below.first_super),
         Kind::Call => on_call(q, row, below.first_access),
-        Kind::Assign => on_assign(q, row, below.deep_access, below.deep_name),
+        Kind::Assign => on_assign(q, row, below.deep_access),
         Kind::Arrow => on_arrow(q, row, switches),
         Kind::Function => on_function(q, row, switches, at, late),
-        Kind::Method | Kind::Property => on_keyed(q, row),
+        Kind::Method | Kind::Property => on_keyed(q, row, holds_method(kind, row.attr)),
         Kind::Field => on_field(q, row, switches, at),
         Kind::StaticBlock => on_static(q, row, switches, at),
         Kind::Target => on_target(q, row),

@@ -14,7 +14,7 @@ pub struct Switches {
 
 impl Switches {
     // What they say.
-    fn converter(self) -> ArrowFunctionConverter
+    pub fn converter(self) -> ArrowFunctionConverter
         ensures mode { result.mode ≡ mode_of (switches_of self) }
         ensures async_to_generator { result.async_to_generator_enabled ≡ self.async_to_generator }
         ensures async_generator_functions { result.async_generator_functions_enabled ≡ self.async_generator_functions }

@@ -1,5 +1,5 @@
 // The record of a binding. Refusal 11.
-ghost use Rattle.std.specs.Prelude.{ℕ, ◌*◌, ◌≤◌, length};
+ghost use Rattle.std.specs.Prelude.{◌*◌, ◌≤◌, length};
 ghost use Rattle.base_text.specs.Bindings.{record_bytes, most_records, HoldsRecord, HoldsBinding};
 
 use names::words::cell;

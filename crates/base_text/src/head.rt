@@ -1,5 +1,5 @@
 // The first character of a text.
-ghost use Rattle.std.specs.Prelude.{◌≡◌, ℕ, ◌<◌, length};
+ghost use Rattle.std.specs.Prelude.{◌≡◌, ◌<◌, length};
 ghost use Rattle.letters.specs.Characters.{code_of};
 ghost use Rattle.base_text.specs.Bases.{HeadOf};
 

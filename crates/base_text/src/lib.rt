@@ -9,7 +9,7 @@ mod head;
 mod spell;
 mod write;
 
-ghost use Rattle.std.specs.Prelude.{◌≡◌, Ok, ℕ, length};
+ghost use Rattle.std.specs.Prelude.{◌≡◌, Ok, length};
 ghost use Rattle.base_text.specs.Bindings.{records_in};
 ghost use Rattle.base_text.specs.Refusals.{number_of, place_of, sizes_ok, front_of, base_text, text_answer, spelled, Told};
 

@@ -1,5 +1,5 @@
 // The text of a binding whose record is sound. Refusals 10 and 9.
-ghost use Rattle.std.specs.Prelude.{◌≡◌, true, ℕ, ◌<◌, ◌≤◌, length};
+ghost use Rattle.std.specs.Prelude.{◌≡◌, true, ◌<◌, ◌≤◌, length};
 ghost use Rattle.uses.specs.Uses.{use_number};
 ghost use Rattle.base_text.specs.Bases.{base_of, with_property, text_for, property_ok};
 ghost use Rattle.base_text.specs.Refusals.{named_answer, answer_for, Told};
@@ -9,7 +9,7 @@ use crate::bases::base_of;
 use crate::bindings::Binding;
 use crate::head::head_of;
 use crate::write::write;
-use names::words::cell;
+use names::words::pair_at;
 
 // A base, and a property with its first character upper-cased.
 fn spell_property(number: u32, base: &[u8], s: &[u8], out: &mut [u8]) -> Result<u32, Refusal>
@@ -37,8 +37,6 @@ pub fn spell(
     let Some(k) = binding.property else {
         return write(base, b"", b"", out);
     };
-    let pair = 2 * (k - 1);
-    let start = cell(names, pair);
-    let end = start + cell(names, pair + 1);
-    spell_property(number, base, &text[start..end], out)
+    let (start, n) = pair_at(names, k);
+    spell_property(number, base, &text[start..start + n], out)
 }

@@ -1,5 +1,5 @@
 // Writing into the bytes lent. Refusal 9.
-ghost use Rattle.std.specs.Prelude.{ℕ, ◌+◌, ◌^◌, ◌<◌, ◌++◌, length};
+ghost use Rattle.std.specs.Prelude.{◌+◌, ◌^◌, ◌<◌, ◌++◌, length};
 ghost use Rattle.base_text.specs.Refusals.{fitted, Told};
 
 use crate::Refusal;

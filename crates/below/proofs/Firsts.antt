@@ -1,17 +1,20 @@
 -- The first rows below a row, by the words of the table. Assumes nothing.
 use Prim.Native.Nat.{ℕ, ◌+◌, ◌≤◌, ◌<◌}
-use mathlib.Core.Path.{◌≡◌, sym, ap, subst, ◌∙◌}
-use mathlib.Core.Bool.{◌&&◌}
+use mathlib.Core.Path.{◌≡◌, sym, subst, ap, ◌∙◌}
+use mathlib.Core.Bool.{Bool, true, false, ◌&&◌, ◌||◌}
 use mathlib.Core.List.{List}
 use native.Mathlib.Omega.{arith}
 use lib.Dec.{eqb}
-use Rattle.grammar.specs.Kinds.{Super, Call}
+use Rattle.std.specs.Prelude.{Option, Some, None, MatchOption}
+use Rattle.grammar.specs.Kinds.{Call, Super, Member, Computed}
 use Rattle.names.specs.Words.{words, kind_at, attr_at, name_at, end_at}
 use Rattle.forest.specs.Forest.{Rows, Rows.none, Rows.node, rows_at}
 use Rattle.forest.proofs.Walking.{rows_none, rows_step, inner}
 use Rattle.steps.specs.Super.{first_super, first_access, first_name, first_inside}
 use Rattle.steps.specs.AfterSuper.{super_call}
-use Rattle.below.specs.Below.{At, children, first_kind, over_super, Firsts}
+use Rattle.below.specs.declared.Node.{Node}
+use Rattle.below.specs.Below.{At, children, property_of}
+use Rattle.below.specs.First.{FirstIs, FirstOf}
 
 -- row i ends right after itself: it has no children
 pub childless : (ws : List ℕ) (i e : ℕ) → e ≡ end_at ws i → e ≤ i + 1 → children ws i ≡ none
@@ -31,62 +34,72 @@ pub parent : (rows : List ℕ) (n i e : ℕ) → At rows n i → e ≡ end_at (w
     → children (words rows) i ≡ node (kind_at (words rows) (i + 1)) (attr_at (words rows) (i + 1)) (name_at (words rows) (i + 1)) (children (words rows) (i + 1)) (rows_at (words rows) (end_at (words rows) (i + 1)) (end_at (words rows) i))
 parent rows n i e at q h = rows_step (words rows) n at.nested (i + 1) (end_at (words rows) i) (inner (words rows) n at.nested i at.row) (subst (λ (x : ℕ). i + 1 < x) q h)
 
--- the kind of the first of some rows, where there is one
-pub kind-of : {f i s : Rows} {k a n x : ℕ} → f ≡ node k a n i s → x ≡ k → x ≡ first_kind f
-unfolding first_kind
-kind-of q h = h ∙ sym (ap first_kind q)
+-- what is said of the first of some rows, by the first child that was read
+module _ {rows : List ℕ} {i : ℕ} {child : Node} (f : FirstIs rows i child) where
+  abbrev kind : ℕ
+  kind = kind_at (words child.rows.now) child.at
 
--- the three levels, by what is inside the first row
-pub firsts : {f i s : Rows} {k a n one two three name : ℕ} → f ≡ node k a n i s → one ≡ k → two ≡ first_kind i → three ≡ first_kind (first_inside i) → name ≡ first_name i → name < 4294967296 → Firsts f one two three name
-unfolding first_inside
-firsts q h1 h2 h3 h4 h5 = record {
-  first = kind-of q h1;
-  second = h2 ∙ sym (ap (λ (x : Rows). first_kind (first_inside x)) q);
-  third = h3 ∙ sym (ap (λ (x : Rows). first_kind (first_inside (first_inside x))) q);
-  named = h4 ∙ sym (ap (λ (x : Rows). first_name (first_inside x)) q);
-  small = h5;
-}
+  abbrev own : Rows
+  own = children (words child.rows.now) child.at
 
--- the kind where there is no row
-pub kind_none : {f : Rows} → f ≡ none → 0 ≡ first_kind f
-unfolding first_kind
-kind_none q = sym (ap first_kind q)
+  pub super_first : eqb kind Super ≡ first_super (children (words rows) i)
+  unfolding first_super
+  super_first = rw (f.same, f.first)
 
--- the three levels where there is no row
-pub firsts-none : {f : Rows} → f ≡ none → Firsts f 0 0 0 0
-unfolding first_kind first_inside first_name
-firsts-none q = record {
-  first = kind_none q;
-  second = sym (ap (λ (x : Rows). first_kind (first_inside x)) q);
-  third = sym (ap (λ (x : Rows). first_kind (first_inside (first_inside x))) q);
-  named = sym (ap (λ (x : Rows). first_name (first_inside x)) q);
-  small = omega arith;
-}
+  pub access_first : (eqb kind Member || eqb kind Computed) && first_super own ≡ first_access (children (words rows) i)
+  unfolding first_access
+  access_first = rw (f.same, f.first)
 
--- the three levels where the first row has no children
-pub firsts-one : {f i s : Rows} {k a n one : ℕ} → f ≡ node k a n i s → one ≡ k → i ≡ none → Firsts f one 0 0 0
-unfolding first_kind first_inside first_name
-firsts-one q h1 z = firsts q h1 (kind_none z) (sym (ap (λ (x : Rows). first_kind (first_inside x)) z)) (sym (ap first_name z)) (omega arith)
+  pub call_first : eqb kind Call && first_super own ≡ super_call (children (words rows) i)
+  unfolding super_call
+  call_first = rw (f.same, f.first)
 
--- the three levels where it has children
-pub firsts-two : {f i s j t : Rows} {k a n l b m one two three name : ℕ} → f ≡ node k a n i s → i ≡ node l b m j t → one ≡ k → two ≡ l → name ≡ m → name < 4294967296 → three ≡ first_kind j → Firsts f one two three name
-unfolding first_inside first_name
-firsts-two q z h1 h2 h4 h5 h3 = firsts q h1 (kind-of z h2) (h3 ∙ sym (ap (λ (x : Rows). first_kind (first_inside x)) z)) (h4 ∙ sym (ap first_name z)) h5
+  pub name_first : name_at (words child.rows.now) child.at ≡ first_name (children (words rows) i)
+  unfolding first_name
+  name_first = rw (f.same, f.first)
 
--- a Super comes first, by the first row's kind
-pub is_super : (f : Rows) (one : ℕ) → one ≡ first_kind f → eqb one Super ≡ first_super f
-unfolding first_super first_kind
-is_super none one h = rw h
-is_super (node k a n i s) one h = rw h
+  pub inside_first : own ≡ first_inside (children (words rows) i)
+  unfolding first_inside
+  inside_first = rw (f.same, f.first)
 
--- `super.p` or `super[k]` comes first, by the kinds of two levels
-pub is_access : (f : Rows) (one two : ℕ) → one ≡ first_kind f → two ≡ first_kind (first_inside f) → over_super one two ≡ first_access f
-unfolding first_access first_kind first_inside
-is_access none one two h1 h2 = rw h1
-is_access (node k a n i s) one two h1 h2 = rw (h1, is_super i two h2)
+  -- its property, by whether it is `super.p` or `super[k]`
+  module _ {access : Bool} (p : access ≡ ((eqb kind Member || eqb kind Computed) && first_super own)) where
+    pub property_yes : {x : ℕ} → access ≡ true → x ≡ name_at (words child.rows.now) child.at → Some x ≡ property_of (children (words rows) i)
+    property_yes t q = rw (sym (p ∙ access_first) ∙ t) (ap Some (q ∙ name_first))
 
--- `super(..)` comes first, by the kinds of two levels
-pub is_call : (f : Rows) (one two : ℕ) → one ≡ first_kind f → two ≡ first_kind (first_inside f) → eqb one Call && eqb two Super ≡ super_call f
-unfolding super_call first_kind first_inside
-is_call none one two h1 h2 = rw h1
-is_call (node k a n i s) one two h1 h2 = rw (h1, is_super i two h2)
+    pub property_no : access ≡ false → None ≡ property_of (children (words rows) i)
+    property_no t = rw (sym (p ∙ access_first) ∙ t)
+
+-- where there is no first child
+pub property_none : (rows : List ℕ) (i : ℕ) {answer : Option Node} → answer ≡ None → FirstOf rows i answer → None ≡ property_of (children (words rows) i)
+unfolding first_access
+property_none rows i q h = let e : children (words rows) i ≡ none = subst (FirstOf rows i) q h in rw e
+
+-- what is asked of the first child: no where there is none
+pub super_of : (rows : List ℕ) (i : ℕ) (answer : Option Node) {r : Bool} → FirstOf rows i answer
+    → MatchOption answer (r ≡ false) (λ child. r ≡ eqb (kind_at (words child.rows.now) child.at) Super) → r ≡ first_super (children (words rows) i)
+unfolding first_super
+super_of rows i None h q = rw h q
+super_of rows i (Some child) f q = q ∙ super_first f
+
+pub call_of : (rows : List ℕ) (i : ℕ) (answer : Option Node) {r : Bool} → FirstOf rows i answer
+    → MatchOption answer (r ≡ false) (λ child. r ≡ (eqb (kind_at (words child.rows.now) child.at) Call && first_super (children (words child.rows.now) child.at)))
+    → r ≡ super_call (children (words rows) i)
+unfolding super_call
+call_of rows i None h q = rw h q
+call_of rows i (Some child) f q = q ∙ call_first f
+
+-- a name of it, or 0
+pub name_of : (rows : List ℕ) (i : ℕ) (answer : Option Node) {r : ℕ} → FirstOf rows i answer
+    → MatchOption answer (r ≡ 0) (λ child. (r ≡ name_at (words child.rows.now) child.at) × (r < 4294967296))
+    → (r ≡ first_name (children (words rows) i)) × (r < 4294967296)
+unfolding first_name
+name_of rows i None h q = (rw h q, omega arith)
+name_of rows i (Some child) f q = (q.0 ∙ name_first f, q.1)
+
+pub deep_of : (rows : List ℕ) (i : ℕ) (answer : Option Node) {r : ℕ} → FirstOf rows i answer
+    → MatchOption answer (r ≡ 0) (λ child. (r ≡ first_name (children (words child.rows.now) child.at)) × (r < 4294967296))
+    → (r ≡ first_name (first_inside (children (words rows) i))) × (r < 4294967296)
+unfolding first_name first_inside
+deep_of rows i None h q = (rw h q, omega arith)
+deep_of rows i (Some child) f q = (q.0 ∙ ap first_name (inside_first f), q.1)

@@ -1,13 +1,14 @@
 -- The buckets of accessors: what keeps them, and an accessor more. Assumes nothing.
 use mathlib.Core.Path.{◌≡◌, refl, ap, sym, subst, ◌∙◌}
 use mathlib.Core.List.{List, [], ◌∷◌, ◌++◌}
-use Prim.Native.Nat.{ℕ, ◌+◌, ◌*◌, ◌<◌, ◌≤◌}
+use Prim.Native.Nat.{ℕ, ◌+◌, ◌-◌, ◌*◌, ◌<◌, ◌≤◌}
 use mathlib.Core.Bool.{Bool, true, false, cond, ◌&&◌, ◌||◌}
 use native.Mathlib.Omega.{arith}
 use borrow.Author.Tests.{eqb-true, ne_eqb, eq-eqb}
 use lib.Dec.{eqb}
-use lib.ListN.{length, drop, get_or, set, length-set, length-drop}
-use lib.Seq.{get_or-set_same, get_or-set_other, get_or-drop, drop-set-lt, drop-set-add}
+use lib.ListN.{length, drop, get_or, set, length-set, length-drop, get_or-append}
+use lib.Seq.{get_or-set_same, get_or-set_other, get_or-append-add, get_or-drop, drop-set-lt, drop-set-add}
+use Rattle.std.proofs.lemmas.List.{set-append_left, set-append_right}
 use Rattle.steps.specs.Bindings.{Binding, Binding.bind, params_of, closed}
 use Rattle.names.proofs.Bools.{and_right}
 use Rattle.buckets.specs.Search.{last_where, first_where}
@@ -51,6 +52,30 @@ filed_behind M cap h b v =
 pub filed_before : (M : List ℕ) (cap h b v j : ℕ) → j < 10 * cap → get_or (set (set M (10 * cap + (cap + b)) v) (10 * cap + h) b) j 0 ≡ get_or M j 0
 filed_before M cap h b v j l =
     get_or-set_other (set M (10 * cap + (cap + b)) v) (10 * cap + h) j b 0 (λ q. omega arith) ∙ get_or-set_other M (10 * cap + (cap + b)) j v 0 (λ q. omega arith)
+
+-- `file`: the array is the ten tables A, and the two tables L and B behind them
+module _ (A L B : List ℕ) (cap h b : ℕ) (long : length A ≡ 10 * cap) (size : length L ≡ cap) (low : h < cap) where
+  set_before : (v : ℕ) → set (A ++ (L ++ B)) (10 * cap + (cap + b)) v ≡ A ++ (L ++ set B b v)
+  set_before v =
+      let i : 10 * cap + (cap + b) - 10 * cap ≡ cap + b = omega arith in
+      let j : cap + b - cap ≡ b = omega arith in
+      set-append_right A (L ++ B) (10 * cap) (10 * cap + (cap + b)) v long (omega arith)
+      ∙ ap (λ (m : ℕ). A ++ set (L ++ B) m v) i ∙ ap (λ (l : List ℕ). A ++ l) (set-append_right L B cap (cap + b) v size (omega arith) ∙ ap (λ (m : ℕ). L ++ set B m v) j)
+
+  set_last : (B₁ : List ℕ) → set (A ++ (L ++ B₁)) (10 * cap + h) b ≡ A ++ (set L h b ++ B₁)
+  set_last B₁ =
+      let i : 10 * cap + h - 10 * cap ≡ h = omega arith in
+      set-append_right A (L ++ B₁) (10 * cap) (10 * cap + h) b long (omega arith)
+      ∙ ap (λ (m : ℕ). A ++ set (L ++ B₁) m b) i ∙ ap (λ (l : List ℕ). A ++ l) (set-append_left L B₁ h b (omega (arith, size)))
+
+  pub filed_parts : {M D L' B' : List ℕ} → M ≡ A ++ D → D ≡ L ++ B → L' ≡ set L h b → B' ≡ set B b (get_or L h 0)
+      → A ++ (L' ++ B') ≡ set (set M (10 * cap + (cap + b)) (get_or M (10 * cap + h) 0)) (10 * cap + h) b
+  filed_parts {M} {D} {L'} {B'} qm qd ql qb =
+      let q : M ≡ A ++ (L ++ B) = qm ∙ ap (λ (l : List ℕ). A ++ l) qd in
+      let i : length A + h ≡ 10 * cap + h = omega (arith, long) in
+      let g : get_or (A ++ (L ++ B)) (10 * cap + h) 0 ≡ get_or L h 0 =
+      sym (ap (λ (m : ℕ). get_or (A ++ (L ++ B)) m 0) i) ∙ get_or-append-add A (L ++ B) h 0 ∙ get_or-append L B 0 h (omega (arith, size)) in
+      rw (ql, qb, q, g, set_before (get_or L h 0), set_last (set B b (get_or L h 0)))
 
 -- bindings that are no accessors are in no bucket
 outside : (names text : List ℕ) (cap : ℕ) (ps : List Binding) → AllParams ps → Outside (in_bucket names text cap) ps
@@ -176,9 +201,12 @@ module _ (names text M : List ℕ) (cap count : ℕ) (F : Filed names text (behi
   long-behind : length (behind cap M) ≡ 2 * cap
   long-behind = ap length (sym tail) ∙ length-drop (10 * cap) M₁ ∙ (let l = K.store.long in omega arith)
 
-  pub super_filed : Filed names text (behind cap M₂) cap bs
+  super_filed : Filed names text (behind cap M₂) cap bs
   super_filed =
       let r = K.store.room in
       subst (λ (l : List Binding). Filed names text (behind cap M₂) cap l) (sym noted)
       (subst (λ (l : List ℕ). Filed names text l cap (binds M cap count ++ (bind u x f ∷ []))) (sym behind_now)
       (filed_new F u f x acc h b at hl (omega arith) long-behind (omega (arith, new, binds-length M cap 1 count))))
+
+  pub super_files : Filed names text (behind cap M₂) cap (binds M₂ cap b)
+  super_files = subst (Filed names text (behind cap M₂) cap) (sym super_kept.list) super_filed

@@ -1,32 +1,25 @@
 -- An accessor, looked for along its bucket from the last to the first. Assumes nothing.
-use mathlib.Core.Path.{◌≡◌, refl, ap, sym, subst, ◌∙◌}
+use mathlib.Core.Path.{◌≡◌, refl, ap, sym, ◌∙◌}
 use mathlib.Core.List.{List, [], ◌∷◌, ◌++◌}
 use Prim.Native.Nat.{ℕ, ◌+◌, ◌*◌, ◌-◌, ◌<◌, ◌≤◌}
 use mathlib.Core.Bool.{Bool, true, false, cond, ◌&&◌, ◌||◌, true≢false}
 use native.Mathlib.Omega.{arith}
 use borrow.Author.Tests.{eqb-true, ne_eqb, eq-eqb}
 use lib.Dec.{eqb}
-use lib.ListN.{length, get_or, length-append}
+use lib.ListN.{length, drop, get_or, length-append}
 use lib.Seq.{get_or-drop}
 use Rattle.names.specs.Names.{same_name}
 use Rattle.spelling.proofs.Hashing.{same-bytes_of}
 use Rattle.steps.specs.Bindings.{Binding, Binding.bind, is, number, note}
 use Rattle.steps.specs.Naming.{Names, same_as}
 use Rattle.steps.specs.Outcome.{names_of}
-use Rattle.buckets.proofs.Finding.{Finding, finding_start, finding_done, finding_low, finding_next, finding_less}
+use Rattle.buckets.specs.Along.{members, Each, Last}
+use Rattle.buckets.proofs.Walking.{each_member, last_member}
 use Rattle.bindings.specs.Search.{is_accessor}
 use Rattle.bindings.specs.Store.{bind_at, binds}
 use Rattle.bindings.specs.Filed.{behind, bucket_of, in_bucket, Filed}
 use Rattle.bindings.proofs.Numbered.{number_where}
 use Rattle.bindings.proofs.Arrays.{binds-length, binds-at}
-
--- A use is 3 or 4.
-pub accessor-small : (u : ℕ) → is_accessor u ≡ true → u < 16384
-accessor-small u h = go (eqb u 3) refl h
-  where
-    go : (t : Bool) → eqb u 3 ≡ t → (t || eqb u 4) ≡ true → u < 16384
-    go true e z = let k = eqb-true u 3 e in omega arith
-    go false e z = let k = eqb-true u 4 z in omega arith
 
 -- an accessor that is looked for is in its bucket
 module _ (names text : List ℕ) (cap u f x : ℕ) (acc : is_accessor u ≡ true) where
@@ -50,40 +43,30 @@ at-list M cap count b n l =
     let q : 1 + (b - 1) ≡ b = omega arith in
     binds-at M cap 1 count (b - 1) (bind 0 0 0) (omega arith) ∙ ap (bind_at M cap) q
 
--- `Frame::accessor`, which looks for that accessor along its bucket, at accessor b (0: none is left)
-abbrev pub Looking : (names text : List ℕ) (cap u f x : ℕ) → List Binding → (b found : ℕ) → Type 0
-Looking names text cap u f x bs b found = Finding (is (names_of names text) u f x) (in_bucket names text cap (bucket_of names text cap u f x)) bs b found
+-- `Frame::accessor`, over the two tables L and B that stand behind the ten, along its bucket h
+module _ (names text M : List ℕ) (cap count u f x : ℕ) (F : Filed names text (behind cap M) cap (binds M cap count)) (h : ℕ) (at : h ≡ bucket_of names text cap u f x) (low : h < cap)
+    (L B : List ℕ) (ql : L ≡ drop (10 * cap) M) (qb : B ≡ drop (11 * cap) M) where
+  last_in : get_or L h 0 ≡ get_or (behind cap M) h 0
+  last_in = ap (λ (l : List ℕ). get_or l h 0) ql
 
-module _ (names text M : List ℕ) (cap count u f x : ℕ) (F : Filed names text (behind cap M) cap (binds M cap count)) where
-  pub looking_start : (h : ℕ) → h ≡ bucket_of names text cap u f x → h < cap → (b : ℕ) → b ≡ get_or M (10 * cap + h) 0 → Looking names text cap u f x (binds M cap count) b 0
-  looking_start h at l b e =
-      finding_start F.tables (is (names_of names text) u f x) (bucket_of names text cap u f x) (subst (λ (m : ℕ). m < cap) at l) b
-      (e ∙ sym (get_or-drop (10 * cap) M h 0) ∙ ap (λ (m : ℕ). get_or (behind cap M) m 0) at)
+  before : (b : ℕ) → get_or B b 0 ≡ get_or (behind cap M) (cap + b) 0
+  before b =
+      let q : 11 * cap + b ≡ 10 * cap + (cap + b) = omega arith in
+      ap (λ (l : List ℕ). get_or l b 0) qb ∙ get_or-drop (11 * cap) M b 0 ∙ ap (λ (m : ℕ). get_or M m 0) q ∙ sym (get_or-drop (10 * cap) M (cap + b) 0)
 
-  module _ {b found : ℕ} (W : Looking names text cap u f x (binds M cap count) b found) where
-    pub looking-low : b ≤ count
-    looking-low = omega (arith, finding_low W, binds-length M cap 1 count)
+  -- the accessors of a bucket are among the bindings
+  pub in_bucket_each : (P : ℕ → Type 0) → ((b : ℕ) → b ≤ count → get_or B b 0 < b → P b) → Each P (members L B h)
+  in_bucket_each P p = each_member F.tables h low L B last_in before P (λ b n l k. p b (omega (arith, binds-length M cap 1 count)) k)
 
-    pub found_low : found ≤ count
-    found_low = omega (arith, W.found_low, binds-length M cap 1 count)
-
-    -- what is found along the bucket is the number of the steps
-    pub looking-done : is_accessor u ≡ true → b ≡ 0 → found ≡ number (names_of names text) (binds M cap count) u f x
-    unfolding number
-    looking-done acc z = finding_done W (out_of_it names text cap u f x acc) z ∙ sym (number_where (names_of names text) u f x 1 (binds M cap count))
-
-    module _ (some : b ≡ 0 → ⊥) (b₁ : ℕ) (e : b₁ ≡ get_or M (10 * cap + (cap + b)) 0) where
-      before : b₁ ≡ get_or (behind cap M) (cap + b) 0
-      before = e ∙ sym (get_or-drop (10 * cap) M (cap + b) 0)
-
-      pub looking-next : is_accessor u ≡ true → (t : Bool) → t ≡ is (names_of names text) u f x (bind_at M cap b) → (found₁ : ℕ) → found₁ ≡ cond t b found
-          → Looking names text cap u f x (binds M cap count) b₁ found₁
-      looking-next acc t q found₁ g =
-          finding_next F.tables (bucket_of names text cap u f x) W some b₁ before (out_of_it names text cap u f x acc) t
-          (q ∙ sym (ap (is (names_of names text) u f x) (at-list M cap count b some looking-low))) found₁ g
-
-      pub looking-less : b₁ < b
-      looking-less = finding_less F.tables (bucket_of names text cap u f x) W some b₁ before
+  -- what is found along the bucket is the number of the steps
+  pub found_number : is_accessor u ≡ true → (Answers : ℕ → Bool → Type 0) → ((b : ℕ) (t : Bool) → b ≤ count → Answers b t → t ≡ is (names_of names text) u f x (bind_at M cap b))
+      → (r : ℕ) → Last Answers (members L B h) 0 r → (r ≡ number (names_of names text) (binds M cap count) u f x) × (r ≤ count)
+  unfolding number
+  found_number acc Answers p r q =
+      let k = last_member F.tables h low L B last_in before (is (names_of names text) u f x) (λ b z. out_of_it names text cap u f x acc b (ap (λ (m : ℕ). in_bucket names text cap m b) (sym at) ∙ z)) Answers
+      (λ b t n l a. let i : b ≤ count = omega (arith, binds-length M cap 1 count) in
+      p b t i a ∙ sym (ap (is (names_of names text) u f x) (at-list M cap count b (λ z. omega arith) i))) r q in
+      (k.0 ∙ sym (number_where (names_of names text) u f x 1 (binds M cap count)), omega (arith, k.1, binds-length M cap 1 count))
 
 -- "when first met": noted before, or not
 pub note-some : (N : Names) (u f x : ℕ) (bs : List Binding) (m : ℕ) → m ≡ number N bs u f x → (m ≡ 0 → ⊥) → note N u f x bs ≡ bs

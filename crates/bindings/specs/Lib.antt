@@ -2,3 +2,4 @@ pub mod Search
 pub mod Store
 pub mod Post
 pub mod Filed
+pub mod Making

@@ -7,8 +7,8 @@ ghost use Rattle.bindings.specs.Store.{binds, this_at, arguments_at, first_at};
 ghost use Rattle.bindings.specs.Filed.{Filed, behind};
 
 use crate::view::Bindings;
-use crate::{ARGUMENTS, FIRST_ACCESSOR, FIRST_PARAM, THIS, bucket};
-use buckets::pick;
+use crate::{ARGUMENTS, BUCKETS, FIRST_ACCESSOR, FIRST_PARAM, THIS, bucket};
+use buckets::first_in;
 use spelling::Names;
 use uses::Access;
 
@@ -49,7 +49,6 @@ impl Frame<'_> {
     }
 
     // The number of the frame's accessor of that use and property, 0 where it has none.
-    // The accessors of its bucket are looked at one by one, from the last to the first.
     pub fn accessor(self, names: &Names<'_>, access: Access, x: usize) -> usize
         requires filed { Filed names.now.pairs.now names.now.text.now (behind self.bindings.cap self.bindings.made.now) self.bindings.cap (binds self.bindings.made.now self.bindings.cap self.bindings.count) }
         ensures { (result ≡ number (names_of names.now.pairs.now names.now.text.now) (binds self.entry.bindings.made.now self.entry.bindings.cap self.entry.bindings.count) (access_number access) self.entry.row x)
@@ -58,14 +57,8 @@ impl Frame<'_> {
         let all = self.bindings;
         let row = self.row;
         let h = bucket(names, all.cap, access, row, x);
-        let mut found: usize = 0;
-        let mut b = all.last_in(h);
-        // A loop by hand: a chain of numbers, no counted index, for which an iterator would be no plainer.
-        while b != 0 {
-            let it = all.is_it(names, b, access, row, x);
-            found = pick(it, b, found);
-            b = all.before(b);
-        }
-        found
+        first_in(all.table(BUCKETS), all.table(BUCKETS + 1), h, |b| {
+            all.is_it(names, b, access, row, x)
+        })
     }
 }

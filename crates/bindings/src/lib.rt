@@ -10,9 +10,9 @@ pub mod frame;
 pub mod maker;
 pub mod view;
 
-ghost use Rattle.std.specs.Prelude.{◌≡◌, Bool, true, cond, ℕ, ◌+◌, ◌*◌, ◌<◌, ◌≤◌, [], ◌∷◌, ◌++◌, length, get_or, set};
+ghost use Rattle.std.specs.Prelude.{◌≡◌, true, cond, ◌+◌, ◌*◌, ◌<◌, ◌≤◌, [], ◌∷◌, ◌++◌, ◌||◌, length, get_or, set};
 ghost use Rattle.uses.specs.Uses.{use_number, access_number};
-ghost use Rattle.steps.specs.Bindings.{Binding, Binding.bind};
+ghost use Rattle.steps.specs.Bindings.{Binding.bind};
 ghost use Rattle.bindings.specs.Search.{is_param, is_accessor, one_param, params_for};
 ghost use Rattle.bindings.specs.Store.{binds, pushed, chained, last_table, link_table};
 ghost use Rattle.bindings.specs.Post.{Kept, Asked, Room};
@@ -97,24 +97,24 @@ fn chain(made: &mut [u32], cap: usize, param: bool, f: usize, b: usize)
     made[table] = b as u32;
 }
 
+// Whether it is a parameter of an accessor.
+fn is_param(usage: Use) -> bool
+    ensures { result ≡ is_param (use_number usage) }
+{
+    matches!(usage, Use::Prop | Use::Value)
+}
+
 // Binding count + 1, chained: an accessor, or a parameter of one.
-fn add(
-    made: &mut [u32],
-    cap: usize,
-    count: usize,
-    usage: Use,
-    x: u32,
-    f: usize,
-    param: bool,
-) -> usize
+fn add(made: &mut [u32], cap: usize, count: usize, usage: Use, x: u32, f: usize) -> usize
     requires room { Room made.old cap f count }
-    requires u_value { cond param (is_param (use_number usage)) (is_accessor (use_number usage)) ≡ true }
+    requires chained { (is_param (use_number usage) || is_accessor (use_number usage)) ≡ true }
     ensures kept { Kept made.new cap (binds made.old cap count ++ (bind (use_number usage) x f ∷ [])) result }
     ensures value { result ≡ count + 1 }
     ensures made_unchanged { behind cap made.new ≡ behind cap made.old }
 {
     let b = count + 1;
     push(made, cap, b, usage, x, f);
+    let param = is_param(usage);
     chain(made, cap, param, f, b);
     b
 }
@@ -127,26 +127,26 @@ fn add_one(made: &mut [u32], cap: usize, count: usize, wanted: bool, usage: Use,
     ensures made_unchanged { behind cap made.new ≡ behind cap made.old }
 {
     if wanted {
-        return add(made, cap, count, usage, 0, f, true);
+        return add(made, cap, count, usage, 0, f);
     }
     count
 }
 
-// The parameters of an accessor of use u and property x: prop if computed, then value if set.
-fn add_params(made: &mut [u32], cap: usize, count: usize, u: usize, x: usize, f: usize) -> usize
-    requires { Asked made.old cap f count (binds made.old cap count ++ params_for u x f) }
-    ensures kept { Kept made.new cap (binds made.old cap count ++ params_for u x f) result }
+// The parameters of an accessor of property x: prop if computed, then value if set.
+fn add_params(
+    made: &mut [u32],
+    cap: usize,
+    count: usize,
+    access: Access,
+    x: usize,
+    f: usize,
+) -> usize
+    requires { Asked made.old cap f count (binds made.old cap count ++ params_for (access_number access) x f) }
+    ensures kept { Kept made.new cap (binds made.old cap count ++ params_for (access_number access) x f) result }
     ensures made_unchanged { behind cap made.new ≡ behind cap made.old }
 {
     let computed = add_one(made, cap, count, x == 0, Use::Prop, f);
-    add_one(
-        made,
-        cap,
-        computed,
-        u == Use::Set.number() as usize,
-        Use::Value,
-        f,
-    )
+    add_one(made, cap, computed, access == Access::Set, Use::Value, f)
 }
 
 // The word of a record that says what an accessor does.
@@ -170,7 +170,7 @@ fn file(made: &mut [u32], cap: usize, h: usize, b: usize)
     requires { (length made.old ≡ TABLES * cap) × ((b < cap) × ((h < cap) × (cap ≤ 16384))) }
     ensures { made.new ≡ set (set made.old (10 * cap + (cap + b)) (get_or made.old (10 * cap + h) 0)) (10 * cap + h) b }
 {
-    let last = BUCKETS * cap + h;
-    made[BUCKETS * cap + (cap + b)] = made[last];
-    made[last] = b as u32;
+    let (_, behind) = made.split_at_mut(BUCKETS * cap);
+    let (lasts, befores) = behind.split_at_mut(cap);
+    buckets::file(lasts, befores, h, b);
 }

@@ -1,13 +1,15 @@
 // The bindings as the first walk makes them: the lent array, and how many it holds. It is taken apart
 // here, and what is done to the array is done by functions on words and a number.
+// A Maker's methods lend the array to those of the same names of a FrameState: a rule of the project wants a frame's state as a value
+// that its own operations hand back (docs/TRACE.md, "Forms"), which bodies over `&mut self` would not be.
 ghost use Rattle.std.specs.Prelude.{◌≡◌, ◌++◌};
 ghost use Rattle.uses.specs.Uses.{capture_number, access_number};
-ghost use Rattle.steps.specs.Outcome.{names_of};
 ghost use Rattle.steps.specs.Bindings.{note, params_of};
 ghost use Rattle.bindings.specs.Search.{note_capture};
 ghost use Rattle.bindings.specs.Store.{binds};
 ghost use Rattle.bindings.specs.Post.{Kept, Asked};
 ghost use Rattle.bindings.specs.Filed.{Filed, behind};
+ghost use Rattle.bindings.specs.Making.{named_of, list_of, behind_of, FiledOf};
 
 use crate::frame::Frame;
 use crate::view::Bindings;
@@ -27,11 +29,11 @@ pub struct Maker<'a> {
 impl Maker<'_> {
     // Opens the capture of `this` or of `arguments` in a frame, where it has none yet.
     pub fn capture(&mut self, frame: usize, capture: Capture)
-        requires { Asked self.old.made.now self.old.cap frame self.old.count (note_capture (capture_number capture) frame (binds self.old.made.now self.old.cap self.old.count)) }
+        requires { Asked self.old.made.now self.old.cap frame self.old.count (note_capture (capture_number capture) frame (list_of self.old)) }
         ensures same_reference { self.new.made.ghost_name ≡ self.old.made.ghost_name }
         ensures cap_value { self.new.cap ≡ self.old.cap }
-        ensures kept { Kept self.new.made.now self.old.cap (note_capture (capture_number capture) frame (binds self.old.made.now self.old.cap self.old.count)) self.new.count }
-        ensures made_unchanged { behind self.old.cap self.new.made.now ≡ behind self.old.cap self.old.made.now }
+        ensures kept { Kept self.new.made.now self.old.cap (note_capture (capture_number capture) frame (list_of self.old)) self.new.count }
+        ensures made_unchanged { behind_of self.new ≡ behind_of self.old }
     {
         let state = FrameState {
             row: frame,
@@ -42,11 +44,11 @@ impl Maker<'_> {
 
     // Closes a frame: the parameters of its accessors, by first use.
     pub fn close(&mut self, frame: usize)
-        requires { Asked self.old.made.now self.old.cap frame self.old.count (binds self.old.made.now self.old.cap self.old.count ++ params_of frame (binds self.old.made.now self.old.cap self.old.count)) }
+        requires { Asked self.old.made.now self.old.cap frame self.old.count (list_of self.old ++ params_of frame (list_of self.old)) }
         ensures same_reference { self.new.made.ghost_name ≡ self.old.made.ghost_name }
         ensures cap_value { self.new.cap ≡ self.old.cap }
-        ensures kept { Kept self.new.made.now self.old.cap (binds self.old.made.now self.old.cap self.old.count ++ params_of frame (binds self.old.made.now self.old.cap self.old.count)) self.new.count }
-        ensures made_unchanged { behind self.old.cap self.new.made.now ≡ behind self.old.cap self.old.made.now }
+        ensures kept { Kept self.new.made.now self.old.cap (list_of self.old ++ params_of frame (list_of self.old)) self.new.count }
+        ensures made_unchanged { behind_of self.new ≡ behind_of self.old }
     {
         let state = FrameState {
             row: frame,
@@ -57,13 +59,12 @@ impl Maker<'_> {
 
     // Notes an accessor of that use and property in a frame, where it has none yet.
     pub fn note_super(&mut self, names: &Names<'_>, frame: usize, access: Access, x: u32)
-        requires asked { Asked self.old.made.now self.old.cap frame self.old.count (note (names_of names.now.pairs.now names.now.text.now) (access_number access) frame x (binds self.old.made.now self.old.cap self.old.count)) }
-        requires filed { Filed names.now.pairs.now names.now.text.now (behind self.old.cap self.old.made.now) self.old.cap (binds self.old.made.now self.old.cap self.old.count) }
+        requires asked { Asked self.old.made.now self.old.cap frame self.old.count (note (named_of names.now) (access_number access) frame x (list_of self.old)) }
+        requires filed { FiledOf names.now self.old }
         ensures same_reference { self.new.made.ghost_name ≡ self.old.made.ghost_name }
         ensures cap_value { self.new.cap ≡ self.old.cap }
-        ensures kept { Kept self.new.made.now self.old.cap (note (names_of names.now.pairs.now names.now.text.now) (access_number access) frame x (binds self.old.made.now self.old.cap self.old.count)) self.new.count }
-        ensures filed_2 { Filed names.now.pairs.now names.now.text.now (behind self.old.cap self.new.made.now) self.old.cap
-            (note (names_of names.now.pairs.now names.now.text.now) (access_number access) frame x (binds self.old.made.now self.old.cap self.old.count)) }
+        ensures kept { Kept self.new.made.now self.old.cap (note (named_of names.now) (access_number access) frame x (list_of self.old)) self.new.count }
+        ensures filed_2 { FiledOf names.now self.new }
     {
         let state = FrameState {
             row: frame,
@@ -115,9 +116,9 @@ impl FrameState {
         // A loop by hand: a chain of numbers, in an array that is lent to `add_params` meanwhile, so that an iterator could not hold
         // it: no plainer.
         while b != 0 {
-            let u = entry(made, b);
+            let access = Access::from(entry(made, b));
             let x = entry(made, cap + b);
-            total = add_params(made, cap, total, u, x, row);
+            total = add_params(made, cap, total, access, x, row);
             b = entry(made, NEXT * cap + b);
         }
         FrameState { row, count: total }
@@ -131,11 +132,11 @@ impl FrameState {
         access: Access,
         x: u32,
     ) -> FrameState
-        requires asked { Asked made.old cap self.row self.count (note (names_of names.now.pairs.now names.now.text.now) (access_number access) self.row x (binds made.old cap self.count)) }
+        requires asked { Asked made.old cap self.row self.count (note (named_of names.now) (access_number access) self.row x (binds made.old cap self.count)) }
         requires filed { Filed names.now.pairs.now names.now.text.now (behind cap made.old) cap (binds made.old cap self.count) }
-        ensures kept { Kept made.new cap (note (names_of names.now.pairs.now names.now.text.now) (access_number access) self.row x (binds made.old cap self.count)) result.count }
+        ensures kept { Kept made.new cap (note (named_of names.now) (access_number access) self.row x (binds made.old cap self.count)) result.count }
         ensures row_value { result.row ≡ self.row }
-        ensures filed_2 { Filed names.now.pairs.now names.now.text.now (behind cap made.new) cap (note (names_of names.now.pairs.now names.now.text.now) (access_number access) self.row x (binds made.old cap self.count)) }
+        ensures filed_2 { Filed names.now.pairs.now names.now.text.now (behind cap made.new) cap (binds made.new cap result.count) }
     {
         let row = self.row;
         let count = self.count;
@@ -144,7 +145,7 @@ impl FrameState {
         if seen.accessor(names, access, x as usize) != 0 {
             return self;
         }
-        let b = add(made, cap, count, Use::from(access), x, row, false);
+        let b = add(made, cap, count, Use::from(access), x, row);
         let h = bucket(names, cap, access, row, x as usize);
         file(made, cap, h, b);
         FrameState { row, count: b }

@@ -1,14 +1,14 @@
 // The bindings that are made, to be read: the lent array, and how many it holds. What stands where in the
 // array is known here and in `maker` alone. A number that is 0 says that there is none, as in the array:
 // an Option would only turn that 0 back and forth.
-ghost use Rattle.std.specs.Prelude.{◌≡◌, ℕ, ◌+◌, ◌*◌, ◌<◌, ◌≤◌, true, false, get_or};
+ghost use Rattle.std.specs.Prelude.{◌≡◌, ◌+◌, ◌*◌, ◌<◌, ◌≤◌, get_or, drop};
 ghost use Rattle.uses.specs.Uses.{access_number};
 ghost use Rattle.steps.specs.Outcome.{names_of};
 ghost use Rattle.steps.specs.Bindings.{is};
 ghost use Rattle.std.proofs.Props.{props};
 ghost use Rattle.bindings.specs.Store.{Store, Bare-prop, bind_at, use_at, property_at, frame_at, next_at};
 
-use crate::{BUCKETS, NEXT, TABLES, access_word};
+use crate::{NEXT, TABLES, access_word};
 use spelling::Names;
 use uses::Access;
 
@@ -21,7 +21,8 @@ pub struct Bindings<'a> {
     pub ghost small: { cap ≤ 16384 },
 }
 
-// The words of a binding's record.
+// The words of a binding's record. The use stays a number: `walks` hands it on as it stands, and a `Use` would need its bounds in
+// `Store`, and turn it there and back.
 #[derive(Clone, Copy)]
 pub struct Record {
     pub usage: u32,
@@ -29,7 +30,17 @@ pub struct Record {
     pub frame: u32,
 }
 
-impl Bindings<'_> {
+// A binding's number stays a bare `b < cap`: a type for it would be built from `b` in the line before each of its calls and taken
+// apart in that call, since a chain gives a number that may be 0.
+impl<'a> Bindings<'a> {
+    // The words from that table on.
+    pub(crate) fn table(self, table: usize) -> &'a [u32]
+        requires { table < TABLES }
+        ensures { result.now ≡ drop (table * self.entry.cap) self.entry.made.now }
+    {
+        &self.made[table * self.cap..]
+    }
+
     // Word `at` of that table.
     pub(crate) fn word(self, table: usize, at: usize) -> u32
         requires { (table < TABLES) × (at < self.cap) }
@@ -59,22 +70,6 @@ impl Bindings<'_> {
             property: self.made[self.cap + at],
             frame: self.made[2 * self.cap + at],
         }
-    }
-
-    // The last accessor in bucket h,
-    pub(crate) fn last_in(self, h: usize) -> usize
-        requires { h < self.cap }
-        ensures { result ≡ get_or self.entry.made.now (10 * self.entry.cap + h) 0 }
-    {
-        self.word(BUCKETS, h) as usize
-    }
-
-    // and the one before accessor b in its bucket.
-    pub(crate) fn before(self, b: usize) -> usize
-        requires { b < self.cap }
-        ensures { result ≡ get_or self.entry.made.now (10 * self.entry.cap + (self.entry.cap + b)) 0 }
-    {
-        self.word(BUCKETS + 1, b) as usize
     }
 
     // Whether binding b is that accessor, of that frame and property.

@@ -1,3 +1,4 @@
 pub mod Searches
 pub mod Filing
 pub mod Finding
+pub mod Walking

@@ -1,2 +1,3 @@
 pub mod Search
 pub mod Filed
+pub mod Along

@@ -18,7 +18,7 @@ use Rattle.base_text.proofs.Checking.{fronted}
 use Rattle.base_text.proofs.Meaning.{told-written, told_refused}
 use Rattle.base_text.proofs.Short.{text_short}
 use Rattle.candidates.specs.Candidates.{tail_of, candidate}
-use Rattle.candidates.specs.Faults.{fault_from, first_fault, Sound, Stands}
+use Rattle.candidates.specs.Faults.{fault_from, first_fault, Sound}
 
 -- the count of a list is a small number
 pub few-records : (bindings names text : List ℕ) → front_of bindings names text ≡ Ok tt → records_in bindings ≤ 65535
@@ -41,26 +41,32 @@ module _ (b : ℕ) (bindings names text : List ℕ) (front : front_of bindings n
     pub accepted : IsOk r
     accepted = ap is_ok is-written
 
-    pub stands : (n : ℕ) → r ≡ Ok n → Stands base n after
-    stands n e =
-        let q : Ok n ≡ Ok (length base) = sym e ∙ is-written in
-        let c : n ≡ length base = ap count_of q in
+    counted : (n : ℕ) → r ≡ Ok n → n ≡ length base
+    counted n e = let q : Ok n ≡ Ok (length base) = sym e ∙ is-written in ap count_of q
+
+    pub front_is : (n : ℕ) → r ≡ Ok n → (take n after ≡ base) × (length (take n after) ≤ 270)
+    front_is n e =
+        let c = counted n e in
         let w : after ≡ base ++ drop n before =
         told.bytes ∙ ap (λ (s : Result ℕ Refusal). take (count_of s) base ++ drop (count_of s) before) e ∙ ap (λ (l : List ℕ). l ++ drop n before) (take_all n base (omega arith)) in
-        record { counted = c; front = ap (take n) w ∙ take_at base (drop n before) n (sym c); short = omega (arith, c, text_short b bindings names text front fault) }
+        let f : take n after ≡ base = ap (take n) w ∙ take_at base (drop n before) n (sym c) in
+        (f, omega (arith, ap length f, text_short b bindings names text front fault))
+
+    pub long : (n : ℕ) → r ≡ Ok n → n ≡ length (take n after)
+    long n e = counted n e ∙ sym (ap length (front_is n e).0)
 
 -- a made name, piece by piece
-pub bare-name : {o o₁ o₂ base part : List ℕ} {at i j n c : ℕ} → n < 2 → Stands base c part → Wrote o at (0x5F ∷ []) i o₁ → Wrote o₁ i (take c part) j o₂ → (Wrote o at (candidate base n) j o₂) × (j ≤ at + 281)
+pub bare-name : {o o₁ o₂ base part : List ℕ} {at i j n : ℕ} → n < 2 → (part ≡ base) × (length part ≤ 270) → Wrote o at (0x5F ∷ []) i o₁ → Wrote o₁ i part j o₂ → (Wrote o at (candidate base n) j o₂) × (j ≤ at + 281)
 unfolding candidate tail_of
-bare-name {o} {o₁} {o₂} {base} {part} {at} {i} {j} {n} {c} l s w v =
-    let q : take c part ≡ base ++ [] = s.front ∙ sym (append-nil base) in
-    (rw (lt-ltb n 2 l) (then w (subst (λ (x : List ℕ). Wrote o₁ i x j o₂) q v)), omega (arith, w.next, v.next, ap length s.front, s.counted, s.short))
+bare-name {o} {o₁} {o₂} {base} {part} {at} {i} {j} {n} l s w v =
+    let q : part ≡ base ++ [] = s.0 ∙ sym (append-nil base) in
+    (rw (lt-ltb n 2 l) (then w (subst (λ (x : List ℕ). Wrote o₁ i x j o₂) q v)), omega (arith, w.next, v.next, s.1))
 
-pub numbered_name : {o o₁ o₂ o₃ base part : List ℕ} {at i j r n c : ℕ} → 2 ≤ n → Stands base c part → Wrote o at (0x5F ∷ []) i o₁ → Wrote o₁ i (take c part) j o₂ → (Wrote o₂ j (decimal n) r o₃) → r ≤ j + 10
+pub numbered_name : {o o₁ o₂ o₃ base part : List ℕ} {at i j r n : ℕ} → 2 ≤ n → (part ≡ base) × (length part ≤ 270) → Wrote o at (0x5F ∷ []) i o₁ → Wrote o₁ i part j o₂ → (Wrote o₂ j (decimal n) r o₃) → r ≤ j + 10
     → (Wrote o at (candidate base n) r o₃) × (r ≤ at + 281)
 unfolding candidate tail_of
-numbered_name {o} {o₁} {o₂} {o₃} {base} {part} {at} {i} {j} {r} {n} {c} l s w v u k =
-    (rw (le-ltb n 2 l) (then w (then (subst (λ (x : List ℕ). Wrote o₁ i x j o₂) s.front v) u)), omega (arith, w.next, v.next, ap length s.front, s.counted, s.short, k))
+numbered_name {o} {o₁} {o₂} {o₃} {base} {part} {at} {i} {j} {r} {n} l s w v u k =
+    (rw (le-ltb n 2 l) (then w (then (subst (λ (x : List ℕ). Wrote o₁ i x j o₂) s.0 v) u)), omega (arith, w.next, v.next, s.1, k))
 
 -- The loop over the bindings, at binding b.
 pub record Testing (bindings names text : List ℕ) (b : ℕ) : Type 0 where

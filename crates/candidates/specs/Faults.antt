@@ -1,5 +1,5 @@
 -- "then 11 or 10 at the first binding that meets one". Assumes nothing.
-use Rattle.std.specs.Prelude.{ℕ, zero, suc, ◌+◌, ◌≤◌, ◌≡◌, List, length, take, Result, Ok}
+use Rattle.std.specs.Prelude.{ℕ, zero, suc, ◌+◌, ◌≡◌, List, Result, Ok}
 use Rattle.base_text.specs.Bindings.{records_in}
 use Rattle.base_text.specs.Refusals.{unless, front_of, fault_of}
 use Rattle.base_text.specs.declared.Refusal.{Refusal}
@@ -16,9 +16,3 @@ first_fault bindings names text = fault_from bindings names text 1 (records_in b
 pub record Sound (bindings names text : List ℕ) : Type 0 where
   pub front : front_of bindings names text ≡ Ok tt
   pub faults : first_fault bindings names text ≡ Ok tt
-
--- Of the code: the base text s stands at the front of `out`, and has r bytes.
-pub record Stands (s : List ℕ) (r : ℕ) (out : List ℕ) : Type 0 where
-  pub counted : r ≡ length s
-  pub front : take r out ≡ s
-  pub short : r ≤ 270

@@ -5,7 +5,7 @@ use mathlib.Core.List.{List}
 use Prim.Native.Nat.{ℕ, ◌<◌, ◌≤◌}
 use lib.ListN.{length}
 use Rattle.steps.specs.Naming.{Names}
-use Rattle.steps.specs.Acts.{Ctx, Op, Op.name, Op.call}
+use Rattle.steps.specs.Acts.{Ctx, Op}
 use Rattle.steps.specs.Bindings.{Binding, meet, note}
 use Rattle.bindings.specs.Search.{is_accessor, note_capture}
 use Rattle.bindings.specs.Store.{binds}
@@ -25,6 +25,18 @@ use Rattle.collect.specs.Collecting.{Meets, is_called, leave_capture}
 -- the same bindings, as another list has them
 pub filed_as : {names text I : List ℕ} {cap : ℕ} {bs ds : List Binding} → Filed names text I cap bs → bs ≡ ds → Filed names text I cap ds
 filed_as {names} {text} {I} {cap} F e = subst (Filed names text I cap) e F
+
+-- .. which the array holds, under another name of its size
+pub filed_now : {names text M : List ℕ} {cap cap' count : ℕ} {bs : List Binding} → Filed names text (behind cap' M) cap' bs → Kept M cap bs count → cap' ≡ cap → Filed names text (behind cap' M) cap' (binds M cap' count)
+filed_now {names} {text} {M} {cap} {cap'} {count} F K e = filed_as F (sym (ap (λ (m : ℕ). binds M m count) e ∙ K.list))
+
+-- .. and as it stands there, likewise
+pub filed_at : {names text : List ℕ} {cap cap' : ℕ} (M : List ℕ) (count : ℕ) → cap' ≡ cap → Filed names text (behind cap' M) cap' (binds M cap' count) → Filed names text (behind cap M) cap (binds M cap count)
+filed_at {names} {text} {cap} {cap'} M count e = subst (λ (m : ℕ). Filed names text (behind m M) m (binds M m count)) e
+
+-- .. which are those of a list
+pub filed_then : {names text M : List ℕ} {cap cap' count : ℕ} {bs : List Binding} → Filed names text (behind cap' M) cap' (binds M cap' count) → Kept M cap bs count → cap' ≡ cap → Filed names text (behind cap M) cap bs
+filed_then F K e = filed_as (filed_at _ _ e F) K.list
 
 module _ (N : Names) (M : List ℕ) (cap count : ℕ) (op : Becomes) where
   abbrev met : List Binding
@@ -50,8 +62,10 @@ module _ (N : Names) (M : List ℕ) (cap count : ℕ) (op : Becomes) where
     pub name-asks : Asked M cap f count (note_capture (capture_number v) f (binds M cap count))
     name-asks = record { store = m.store; row_low = name-low.1.1; cap_low = m.cap_low; room = subst (λ (l : List Binding). length l < cap) (sym name-is) m.room }
 
-    pub name-filed : (M' : List ℕ) → Filed N.pairs N.text (behind cap M) cap (binds M cap count) → behind cap M' ≡ behind cap M → Filed N.pairs N.text (behind cap M') cap met
-    name-filed M' F h = subst (λ (I : List ℕ). Filed N.pairs N.text I cap met) (sym h) (subst (λ (l : List Binding). Filed N.pairs N.text (behind cap M) cap l) name-is (filed_capture (capture_number v) f name-low.1.0 F))
+    pub name-filed : (I : List ℕ) {cap' : ℕ} → cap' ≡ cap → Filed N.pairs N.text (behind cap M) cap (binds M cap count) → I ≡ behind cap M → Filed N.pairs N.text I cap' met
+    name-filed I e F h =
+        subst (λ (m : ℕ). Filed N.pairs N.text I m met) (sym e) (subst (λ (I : List ℕ). Filed N.pairs N.text I cap met) (sym h)
+        (subst (λ (l : List Binding). Filed N.pairs N.text (behind cap M) cap l) name-is (filed_capture (capture_number v) f name-low.1.0 F)))
 
     pub name_meets : (M' : List ℕ) (count' : ℕ) → Kept M' cap (note_capture (capture_number v) f (binds M cap count)) count' → Kept M' cap met count'
     name_meets M' count' k = subst (λ (l : List Binding). Kept M' cap l count') name-is k
@@ -73,9 +87,6 @@ module _ (N : Names) (M : List ℕ) (cap count : ℕ) (op : Becomes) where
 
     pub call-meets : (M' : List ℕ) (count' : ℕ) → Kept M' cap (note N (access_number v) f x (binds M cap count)) count' → Kept M' cap met count'
     call-meets M' count' k = subst (λ (l : List Binding). Kept M' cap l count') call-is k
-
-    pub call-filed : (M' : List ℕ) → Filed N.pairs N.text (behind cap M') cap (note N (access_number v) f x (binds M cap count)) → Filed N.pairs N.text (behind cap M') cap met
-    call-filed M' F = subst (λ (l : List Binding). Filed N.pairs N.text (behind cap M') cap l) call-is F
 
 -- the new This, captured or not
 module _ (c : Ctx) (op : Op) (bs : List Binding) (r : Bool) (q : r ≡ is_called op) where

@@ -31,7 +31,6 @@ use Rattle.plan.proofs.Frames.{row_act_low}
 use Rattle.plan.proofs.Leaving.{rows_size}
 use Rattle.plan.specs.Staying.{Stays}
 use Rattle.collect.specs.Collecting.{Meets, Finishes, RowCollects, Collects, is_called, leave_capture, row_c}
-use Rattle.collect.proofs.Meeting.{filed_as}
 use Rattle.collect.proofs.Finishing.{shorter}
 use Rattle.acts.specs.declared.act.Act.{Act as Acted}
 use Rattle.plan.specs.declared.place.Place.{Place}
@@ -52,6 +51,13 @@ filed_left {names} {text} {I} {cap} {bs} c op F = go (is_called op && c.takes_th
     go : (t : Bool) → Filed names text I cap (cond t (note_capture 1 c.this_at bs) bs)
     go true = filed_capture 1 c.this_at (omega arith) F
     go false = F
+
+-- .. and neither does a frame that closes: what stands behind the tables is right for the list then, under another name of the size
+pub filed_finished : {names text I : List ℕ} {cap cap' : ℕ} {bs : List Binding} (M : List ℕ) (b : Bool) (f : ℕ) (c : Ctx) (op : Op)
+    → cap' ≡ cap → Filed names text (behind cap M) cap bs → I ≡ behind cap M → Filed names text I cap' (closed b f (leave_capture c op bs))
+filed_finished {names} {text} {I} {cap} {cap'} {bs} M b f c op e F h =
+    subst (λ (m : ℕ). Filed names text I m (closed b f (leave_capture c op bs))) (sym e)
+    (subst (λ (X : List ℕ). Filed names text X cap (closed b f (leave_capture c op bs))) (sym h) (filed_closed b f (filed_left c op F)))
 
 -- one row: what it meets, its children, and what is left to do after them
 module _ (N : Names) (w : Switches) {rows : List ℕ} {cap : ℕ} {M : List ℕ} {i stop : ℕ} {q : Spot} {count : ℕ}
@@ -89,9 +95,6 @@ module _ (N : Names) (w : Switches) {rows : List ℕ} {cap : ℕ} {M : List ℕ}
 
     pub passed-kept : {M' : List ℕ} {r : ℕ} → Kept M' cap passed r → Kept M' cap after r
     passed-kept k = record { store = k.store; list = k.list ∙ passed-same }
-
-    pub passed-filed : {I : List ℕ} → Filed N.pairs N.text I cap passed → Filed N.pairs N.text I cap after
-    passed-filed F = filed_as F passed-same
 
     -- .. and one without children adds nothing
     pub passed-leaf : stop ≤ i + 1 → Kept M cap after count
@@ -181,12 +184,6 @@ module _ (N : Names) (w : Switches) {rows : List ℕ} {cap : ℕ} {M : List ℕ}
               room = subst (λ (l : List Binding). length l < cap) (sym after_same) P.room;
             })
 
-        pub row-filed : (M₃ : List ℕ) → Filed N.pairs N.text (behind cap₁ M₂) cap₁ inside-code → behind cap₂ M₃ ≡ behind cap₂ M₂ → Filed N.pairs N.text (behind cap M₃) cap after
-        row-filed M₃ F e =
-            let there = filed_as (filed_closed b f (filed_left cx (op_of r.op) (filed_as F (sym k₂.list ∙ ap (λ (m : ℕ). binds M₂ m l₂) (sym e₂))))) after_same in
-            let here = subst (λ (m : ℕ). Filed N.pairs N.text (behind m M₂) m after) (sym e₂) there in
-            subst (λ (m : ℕ). Filed N.pairs N.text (behind m M₃) m after) same-cap (subst (λ (I : List ℕ). Filed N.pairs N.text I cap₂ after) (sym e) here)
-
         pub row_kept : {M₃ : List ℕ} {l₃ : ℕ} → Kept M₃ cap₂ after-code l₃ → Kept M₃ cap after l₃
         row_kept {M₃} {l₃} k = subst (λ (m : ℕ). Kept M₃ m after l₃) same-cap (record { store = k.store; list = k.list ∙ after_same })
 
@@ -214,10 +211,6 @@ unfolding collect_c
 walked {N} {w} {ws} {n} {more} {whole} {from} {e} {cap} {M} {i} {q} {count} W h =
     record { store = W.store; list = ap (λ (f : Rows). collect_c N w q more i f (binds M cap count)) (sym (rows_none ws i e h)) ∙ W.same }
 
-pub walked_filed : {N : Names} {w : Switches} {ws : List ℕ} {n : ℕ} {more : Spot} {whole : List Binding} {from e cap : ℕ} {M : List ℕ} {i : ℕ} {q : Spot} {count : ℕ}
-    → Walking N w ws n more whole from e cap M i q count → e ≤ i → Filed N.pairs N.text (behind cap M) cap whole
-walked_filed W h = filed_as W.filed (walked W h).list
-
 -- one row of the list
 module _ {N : Names} {w : Switches} {ws : List ℕ} {n : ℕ} {more : Spot} {whole : List Binding} {from e cap : ℕ} {M : List ℕ} {i : ℕ} {q : Spot} {count : ℕ}
     (good : Nested ws n) (W : Walking N w ws n more whole from e cap M i q count) (lt : i < e)
@@ -237,13 +230,13 @@ module _ {N : Names} {w : Switches} {ws : List ℕ} {n : ℕ} {more : Spot} {who
   pub here-room : length here < cap
   here-room = shorter here _ cap (collect_grows N w (rows_at ws (end_at ws i) e) more more (end_at ws i) here) (subst (λ (l : List Binding). length l < cap) (sym W.same ∙ step) P.room)
 
-  pub walks_on : {x : ℕ} → x ≡ end_at ws i → {M₃ : List ℕ} {l₃ : ℕ} → Kept M₃ cap here l₃ → Filed N.pairs N.text (behind cap M₃) cap here → Walking N w ws n more whole from e cap M₃ x more l₃
+  pub walks_on : {x : ℕ} → x ≡ end_at ws i → {M₃ : List ℕ} {l₃ : ℕ} → Kept M₃ cap here l₃ → Filed N.pairs N.text (behind cap M₃) cap (binds M₃ cap l₃) → Walking N w ws n more whole from e cap M₃ x more l₃
   walks_on {x} y {M₃} {l₃} k₃ F₃ = record {
     same = ap (λ (m : ℕ). collect_c N w more more m (rows_at ws m e) (binds M₃ cap l₃)) y
         ∙ ap (collect_c N w more more (end_at ws i) (rows_at ws (end_at ws i) e)) k₃.list ∙ sym step ∙ W.same;
     range = subst (λ (m : ℕ). Range ws n m e) (sym y) (later ws n good i e W.range lt);
     start = let a = good.ahead i low_row in let s = W.start in omega arith;
     store = k₃.store;
-    filed = filed_as F₃ (sym k₃.list);
+    filed = F₃;
     low = P.more-low;
   }

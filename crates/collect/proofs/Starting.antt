@@ -13,7 +13,6 @@ use Rattle.steps.specs.Context.{Spot, spot, start, collect_c, made_c}
 use Rattle.bindings.specs.Store.{binds, binds_from}
 use Rattle.bindings.specs.Post.{Kept}
 use Rattle.bindings.specs.Filed.{Filed}
-use Rattle.collect.proofs.Meeting.{filed_as}
 use Rattle.plan.specs.Frames.{FramesBelow}
 use Rattle.collect.specs.Collecting.{Collects, Starts}
 
@@ -38,6 +37,3 @@ module _ (N : Names) (w : Switches) (rows : List ℕ) {M : List ℕ} {cap : ℕ}
 
   pub program_kept : {M' : List ℕ} {count : ℕ} → Kept M' cap walk count → Kept M' cap (made_c N w (table rows)) count
   program_kept k = record { store = k.store; list = k.list ∙ walk_is }
-
-  pub program_filed : {I : List ℕ} → Filed N.pairs N.text I cap walk → Filed N.pairs N.text I cap (made_c N w (table rows))
-  program_filed F = filed_as F walk_is

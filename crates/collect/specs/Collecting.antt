@@ -12,6 +12,13 @@ use Rattle.passes.specs.View.{op_of}
 use Rattle.passes.specs.declared.Becomes.{Becomes}
 use Rattle.steps.specs.Context.{Spot, enter, into, act_c, collect_c}
 use Rattle.plan.specs.Frames.{FramesBelow, OpLow}
+use Rattle.forest.specs.Forest.{rows_at}
+use Rattle.spelling.specs.declared.Names.{Names as Given}
+use Rattle.acts.specs.View.{switches_of}
+use Rattle.acts.specs.declared.switches.Switches.{Switches as Lent}
+use Rattle.plan.specs.Placing.{place_of}
+use Rattle.plan.specs.declared.place.Place.{Place}
+use Rattle.bindings.specs.Making.{named_of}
 
 -- the array holds count bindings, and has room for the list bs that the act makes of them
 pub record Meets (M : List ℕ) (cap count : ℕ) (op : Becomes) (bs : List Binding) : Type 0 where
@@ -54,6 +61,13 @@ row_c N w q ws i bs =
     let A : Act = act_c N w q i (kind_at ws i) (attr_at ws i) (name_at ws i) (children ws i) in
     closed (closes q.slot (kind_at ws i)) (enter w A.more.step q.ctx).this_at
     (leave N q.ctx A.op (collect_c N w (into w q A.one) (into w q A.more) (i + 1) (children ws i) (meet N A.op bs)))
+
+-- the same of the code's names, switches and place, and what the rows from i to e make of it, the first at one and the later ones at more
+abbrev pub row_of : Given → Lent → Place → (rows : List ℕ) (i : ℕ) → List Binding → List Binding
+row_of n w q rows i bs = row_c (named_of n) (switches_of w) (place_of q) (words rows) i bs
+
+abbrev pub rows_of : Given → Lent → (one more : Place) (rows : List ℕ) (i e : ℕ) → List Binding → List Binding
+rows_of n w one more rows i e bs = collect_c (named_of n) (switches_of w) (place_of one) (place_of more) i (rows_at (words rows) i e) bs
 
 -- what the walk asks for one row: that it is one, where it ends, and for its list bs the same as for a list of rows
 pub record RowCollects (rows M : List ℕ) (cap count : ℕ) (q : Spot) (i stop : ℕ) (bs : List Binding) : Type 0 where

@@ -8,7 +8,6 @@ use lib.Seq.{get_or-drop}
 use Rattle.names.specs.Words.{rows_in}
 use Rattle.names.proofs.Zeros.{zeros}
 use Rattle.steps.specs.Mode.{Switches, enabled, async_only}
-use Rattle.steps.specs.Accepted.{Accepted}
 use Rattle.bindings.specs.Store.{Store}
 use Rattle.walks.specs.Ready.{Ready}
 use Rattle.bindings.specs.Filed.{Filed, behind}
@@ -21,8 +20,8 @@ zero_store n cap q l = no_bindings (replicate n 0) cap (rw q (length-replicate (
 pub zero_filed : (names text : List ℕ) (n cap : ℕ) → Filed names text (behind cap (replicate n 0)) cap []
 zero_filed names text n cap = none_filed names text (behind cap (replicate n 0)) cap (λ i. get_or-drop (10 * cap) (replicate n 0) i 0 ∙ zeros n (10 * cap + i))
 
--- an accepted table of at most cap rows, over an array of 12 words for each: what `write_result` requires
+-- a table of at most cap rows, over an array of 12 words for each: what `write_result` requires
 pub over_zeros : {w : Switches} {rows names text : List ℕ} (n cap : ℕ) → n ≡ 12 * cap → 0 < cap → cap ≤ 16384
-    → Accepted 16384 128 w rows names text → ((enabled w || async_only w) ≡ true) × (rows_in rows ≤ cap) → Ready w rows names text (replicate n 0) cap
-over_zeros {names = names} {text = text} n cap q l m a h =
-    record { accepted = a; on = h.0; empty = zero_store n cap q l; unfiled = zero_filed names text n cap; low = m; fits = h.1 }
+    → ((enabled w || async_only w) ≡ true) × (rows_in rows ≤ cap) → Ready w rows names text (replicate n 0) cap
+over_zeros {names = names} {text = text} n cap q l m h =
+    record { on = h.0; empty = zero_store n cap q l; unfiled = zero_filed names text n cap; low = m; fits = h.1 }

@@ -4,7 +4,6 @@
 
 mod result;
 
-ghost use Rattle.std.specs.Prelude.{◌≡◌};
 ghost use Rattle.acts.specs.View.{switches_of};
 ghost use Rattle.answer.specs.Answer as answers;
 ghost use Rattle.answer.specs.Converting.{Converts};
@@ -15,7 +14,6 @@ use refusals::refusal;
 use result::result;
 use rows::{check, limits_for};
 use spelling::Names;
-use steps::ArrowFunctionConverter;
 use walks::AcceptedTable;
 
 // Converts a table of either caller: the rows of the result go to the front of `out_rows`, the records
@@ -35,13 +33,8 @@ pub fn convert(
 {
     let limits = limits_for(tablet);
     check(rows, names, text, limits)?;
-    let converter = ArrowFunctionConverter::new(
-        switches.arrow_function,
-        switches.async_to_generator,
-        switches.async_generator_functions,
-    );
     let names = Names { pairs: names, text };
-    refusal(rows, &names, converter)?;
+    refusal(rows, &names, switches.converter())?;
     let table = AcceptedTable {
         switches,
         rows,

@@ -1,5 +1,5 @@
 // The result of an accepted table, over an array that is as large as the table needs.
-ghost use Rattle.std.specs.Prelude.{◌≡◌, true, ◌||◌, ℕ, ◌*◌, ◌≤◌, ◌<◌};
+ghost use Rattle.std.specs.Prelude.{◌≡◌, true, ◌||◌, ◌*◌, ◌≤◌, ◌<◌};
 ghost use Rattle.names.specs.Words.{rows_in};
 ghost use Rattle.steps.specs.Mode.{enabled, async_only};
 ghost use Rattle.acts.specs.View.{switches_of};
@@ -20,7 +20,8 @@ const FOR_4096: usize = TABLES * 4096;
 
 const FOR_16384: usize = TABLES * 16384;
 
-// A table of at most N rows, over an array of its own, of M words, in a frame of its own.
+// A table of at most N rows, over an array of its own, of M words. Not inlined, so that the array of each size stays in a frame of
+// its own: joined, every table would touch the largest.
 #[inline(never)]
 fn up_to<const N: usize, const M: usize>(
     table: &AcceptedTable<'_>,
@@ -36,23 +37,17 @@ fn up_to<const N: usize, const M: usize>(
     write_result(table, &mut made, N, out_rows, out_bindings)
 }
 
-// The same over arrays of `size` places, or of the next size that has room. It calls itself, so that a
-// compiler leaves the five arrays in frames of their own: joined, every table would touch the largest.
+// The same over the least of these arrays that has room.
 fn over(
-    size: usize,
     table: &AcceptedTable<'_>,
     out_rows: &mut [u8],
     out_bindings: &mut [u8],
 ) -> Result<Converted, Refusal>
-    requires { ((enabled (switches_of table.now.switches) || async_only (switches_of table.now.switches)) ≡ true) × ((rows_in table.now.rows.now ≤ 16384) × (0 < size)) }
+    requires { ((enabled (switches_of table.now.switches) || async_only (switches_of table.now.switches)) ≡ true) × (rows_in table.now.rows.now ≤ 16384) }
     ensures { Gives (switches_of table.now.switches) table.now.rows.now table.now.names.pairs.now table.now.names.text.now result
         out_rows.old out_rows.new out_bindings.old out_bindings.new }
 {
-    if size < table.rows.len() / 16 {
-        let more = 4 * size;
-        return over(more, table, out_rows, out_bindings);
-    }
-    match size {
+    match table.rows.len() / 16 {
         ..=64 => up_to::<64, FOR_64>(table, out_rows, out_bindings),
         ..=256 => up_to::<256, FOR_256>(table, out_rows, out_bindings),
         ..=1024 => up_to::<1024, FOR_1024>(table, out_rows, out_bindings),
@@ -76,5 +71,5 @@ pub fn result(
     if !(enabled | only) {
         return unchanged(table, out_rows, out_bindings);
     }
-    over(64, table, out_rows, out_bindings)
+    over(table, out_rows, out_bindings)
 }

@@ -24,7 +24,7 @@ use Rattle.steps.specs.Context.{Spot, spot, enter, into, act_c}
 use Rattle.steps.specs.Walk.{build}
 use Rattle.steps.specs.Fused.{Pass, pass_of, top_s, build_s, emit_s}
 use Rattle.below.specs.Below.{children}
-use Rattle.passes.specs.View.{slot_number, state_number, op_of}
+use Rattle.passes.specs.View.{slot_number, state_number, op_of, in_sequence, is_behind}
 use Rattle.acts.specs.View.{switches_of}
 use Rattle.plan.specs.Placing.{place_of}
 use Rattle.output.specs.Output.{Done}
@@ -122,7 +122,7 @@ module _ (rows names text : List ℕ) (v : Walk) (good : Nested (words rows) (ro
     inside_is : inside rows names text v p.inner ≡ emit_s N w bs S.bind S.scan (into w q A.one) (into w q A.more) (i + 1) (children ws i)
     inside_is = rw (P.says.bind, P.says.scan, same-pass, P.does.first, P.does.later, P.from, P.end) refl
 
-    dressed-from : (f : Rows) → row_s (spot (place_of p.spot).ctx (slot_number p.slot)) p.bind p.words.kind (frame_in p) p.met p.first (op_of p.op) f ≡ row_s q b (kind_at ws i) r S.met S.first A.op f
+    dressed-from : (f : Rows) → row_s (spot (place_of p.spot).ctx (slot_number p.slot)) p.bind p.head.kind (frame_in p) (in_sequence p.assigned) (is_behind p.assigned) (op_of p.op) f ≡ row_s q b (kind_at ws i) r S.met S.first A.op f
     dressed-from f =
         rw (P.bind, P.kind, frame_is, P.says.met, P.says.first, same-pass, P.does.becomes, P.slot)
         (ap (λ (s : Spot). row_s (spot s.ctx q.slot) b (kind_at ws i) r S.met S.first A.op f) P.spot)
@@ -174,9 +174,6 @@ module _ {rows names text : List ℕ} {v : Walk} {b sc₀ : ℕ} {q₀ more : Sp
       start = let a = ahead in let s = T.start in omega arith;
       low = m;
     }
-
-    pub turn-less : e - p.inner.end < e - i
-    turn-less = let a = ahead in let u = up in omega arith
 
   pub turned : e ≤ i → Done out₀ at (listed rows names text v b sc₀ q₀ more from e) next out
   unfolding emit_s

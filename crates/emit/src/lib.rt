@@ -11,8 +11,8 @@ ghost use Rattle.output.specs.Output.{Done};
 ghost use Rattle.plan.specs.Ranged.{Ranged};
 ghost use Rattle.emit_plan.specs.Plans.{HoldsOf, emitted_of};
 
-use emit_plan::{Siblings, Walk};
-use output::writer::{finish, new};
+use emit_plan::{Inner, Siblings, Walk};
+use output::writer::Writer;
 use passes::states::State;
 use plan::place::program;
 use walkers::list;
@@ -26,15 +26,18 @@ pub fn emit(walk: &Walk<'_, '_>, out: &mut [u8]) -> usize
 {
     let n = walk.rows.len() / 16;
     let start = program();
-    let all = Siblings {
-        from: 0,
-        end: n,
-        bind: 0,
-        state: State::Copy,
-        one: start,
-        more: start,
+    let all = Inner {
+        walk,
+        siblings: Siblings {
+            from: 0,
+            end: n,
+            bind: 0,
+            state: State::Copy,
+            one: start,
+            more: start,
+        },
     };
-    let mut w = new(out, 0);
-    list(walk, all, &mut w);
-    finish(w)
+    let mut w = Writer::new(out, 0);
+    list(all, &mut w);
+    w.finish()
 }

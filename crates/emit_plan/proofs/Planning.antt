@@ -26,7 +26,7 @@ use Rattle.bindings.proofs.Numbered.{this_number}
 use Rattle.passes.specs.declared.Pass.{Pass as Passed}
 use Rattle.plan.specs.declared.place.Place.{Place}
 use Rattle.passes.specs.declared.slots.Slot.{Slot}
-use Rattle.passes.specs.View.{slot_number, op_of, Says}
+use Rattle.passes.specs.View.{slot_number, op_of, in_sequence, is_behind, Says}
 use Rattle.below.specs.Below.{At, children}
 use Rattle.acts.specs.View.{switches_of}
 use Rattle.plan.specs.Placing.{place_of}
@@ -57,21 +57,21 @@ module _ (rows names text : List ℕ) (v : Walk) (b sc : ℕ) (q : Spot) (i : �
     slot_is : slot_number p.slot ≡ q.slot
     slot_is = P.slot
 
-    met-is : p.met ≡ met_of (own q.slot sc) (kind_at ws i) (first_super (children ws i))
+    met-is : in_sequence p.assigned ≡ met_of (own q.slot sc) (kind_at ws i) (first_super (children ws i))
     unfolding pass_of
     met-is = P.says.met
 
-    first-is : p.first ≡ direct_of (own q.slot sc) (kind_at ws i) (super_call (children ws i))
+    first-is : is_behind p.assigned ≡ direct_of (own q.slot sc) (kind_at ws i) (super_call (children ws i))
     unfolding pass_of
     first-is = P.says.first
 
-    words_are : row (kind_at ws i) (attr_at ws i) (name_at ws i) ≡ row p.words.kind p.words.attr p.words.name
+    words_are : row (kind_at ws i) (attr_at ws i) (name_at ws i) ≡ row p.head.kind p.head.attr p.head.name
     words_are = rw (P.kind, P.attr, P.name) refl
 
-    closes-is : closes (slot_number p.slot) p.words.kind ≡ closes q.slot (kind_at ws i)
+    closes-is : closes (slot_number p.slot) p.head.kind ≡ closes q.slot (kind_at ws i)
     closes-is = rw (slot_is, P.kind) refl
 
-    statement-is : is_statement p.words.kind ≡ is_statement (kind_at ws i)
+    statement-is : is_statement p.head.kind ≡ is_statement (kind_at ws i)
     statement-is = ap is_statement P.kind
 
     abbrev late : Bool
@@ -123,7 +123,6 @@ module _ (rows names text : List ℕ) (v : Walk) (b sc : ℕ) (q : Spot) (i : �
           here = subst (λ (s : Spot). FramesBelow v.bindings.cap s.ctx) (sym P.spot) low;
           bound = subst (λ (x : ℕ). x ≤ 16384) (sym P.bind) bound;
           low = L.op;
-          fit = (subst (λ (x : ℕ). x < 4294967296) (sym P.kind) small.kind, (subst (λ (x : ℕ). x < 4294967296) (sym P.attr) small.attr, subst (λ (x : ℕ). x < 4294967296) (sym P.name) small.name));
           formed = formed;
         }
 
@@ -135,10 +134,9 @@ module _ (rows names text : List ℕ) (v : Walk) (b sc : ℕ) (q : Place) (i : �
     spot = q;
     slot = sl;
     bind = b;
-    words = record { kind = k; attr = a; name = n };
+    head = record { kind = k; attr = a; name = n };
     op = A.op;
-    met = s.met;
-    first = s.first;
+    assigned = s.assigned;
     next = s.next;
   }
 

@@ -1,14 +1,12 @@
 -- A row that is written as it is has a plan, though none is made for it. Assumes nothing.
 use mathlib.Core.Path.{◌≡◌, refl, sym, subst}
-use mathlib.Core.Bool.{Bool, true, false, not, ◌&&◌, ◌||◌, true≢false, and-false}
+use mathlib.Core.Bool.{Bool, true, false, not, ◌&&◌, ◌||◌, and-false}
 use mathlib.Core.List.{List}
-use Prim.Native.Nat.{ℕ, ◌+◌, ◌≤◌}
+use Prim.Native.Nat.{ℕ, ◌≤◌}
 use lib.Dec.{eqb}
-use Rattle.names.specs.Words.{words, rows_in, kind_at, attr_at, name_at}
+use Rattle.names.specs.Words.{words, kind_at, attr_at, name_at}
 use Rattle.forest.specs.Forest.{Rows.none, Rows.node}
-use Rattle.forest.specs.Nested.{Range}
-use Rattle.forest.proofs.Walking.{inner, rows_none}
-use Rattle.spelling.specs.Spelling.{GivenNames}
+use Rattle.forest.proofs.Walking.{rows_none}
 use Rattle.steps.specs.Mode.{Switches}
 use Rattle.steps.specs.Naming.{Names}
 use Rattle.steps.specs.Outcome.{names_of}
@@ -18,8 +16,9 @@ use Rattle.steps.specs.Context.{Spot, enter}
 use Rattle.steps.proofs.Credit.{eqb-eq}
 use Rattle.steps.specs.Walk.{build}
 use Rattle.steps.specs.Fused.{met_of, direct_of, own, scan_of, next_of, anew, pass_of, top_s, build_s, emit_s}
-use Rattle.below.specs.Below.{At, children}
+use Rattle.below.specs.Below.{children}
 use Rattle.passes.specs.View.{state_number, op_of}
+use Rattle.passes.specs.declared.Assigned.TheVariants as assignments
 use Rattle.passes.specs.declared.states.State.{State}
 use Rattle.passes.proofs.Numbers.{slot_of, slot_back}
 use Rattle.plan.proofs.Placing.{place_slot}
@@ -27,13 +26,12 @@ use Rattle.passes.specs.declared.Becomes.TheVariants as becomes
 use Rattle.acts.specs.View.{switches_of}
 use Rattle.plan.specs.Placing.{place_of}
 use Rattle.plan.specs.declared.place.Place.{Place}
-use Rattle.acts.specs.declared.act.Words.{Words}
-use Rattle.plan.specs.Frames.{FramesBelow}
+use Rattle.emit_plan.specs.declared.Head.{Head}
 use Rattle.plan.specs.Staying.{Stays}
 use Rattle.emit_plan.specs.declared.Walk.{Walk}
 use Rattle.emit_plan.specs.declared.Siblings.{Siblings}
 use Rattle.emit_plan.specs.declared.Plan.{Plan}
-use Rattle.emit_plan.specs.Plans.{inside, dressed, Holds, InnerPre, Planned}
+use Rattle.emit_plan.specs.Plans.{inside, dressed, Planned}
 use Rattle.emit_plan.specs.Unchanged.{Steady, Unchanged, WordsOf, Along}
 use Rattle.names.proofs.Bools.{and_parts, neither}
 use borrow.Author.Tests.{not-true}
@@ -88,7 +86,7 @@ unchanged_at {w} {q} {sc} {ws} {i} {k} {a} ek ea S D T = record {
   stays = subst (λ (x : ℕ). Stays w q (kind_at ws i) x) ea (subst (λ (x : ℕ). Stays w q x a) ek T);
 }
 
-module _ (rows names text : List ℕ) (v : Walk) (b : ℕ) (st : State) (q : Place) (i : ℕ) (h : Words) (n : Siblings)
+module _ (rows names text : List ℕ) (v : Walk) (b : ℕ) (st : State) (q : Place) (i : ℕ) (h : Head) (n : Siblings)
     (U : Unchanged (switches_of v.switches) (place_of q) (state_number st) (words rows) i) (H : WordsOf (words rows) i h) (E : Along (words rows) b (state_number st) (place_of q) i n) where
   abbrev ws : List ℕ
   ws = words rows
@@ -100,7 +98,7 @@ module _ (rows names text : List ℕ) (v : Walk) (b : ℕ) (st : State) (q : Pla
   w = switches_of v.switches
 
   abbrev pub plan : Plan
-  plan = record { inner = n; spot = q; slot = slot_of (place_of q).slot; bind = b; words = h; op = becomes.Row h.kind h.attr h.name; met = false; first = false; next = st }
+  plan = record { inner = n; spot = q; slot = slot_of (place_of q).slot; bind = b; head = h; op = becomes.Row h.kind h.attr h.name; assigned = assignments.Nowhere; next = st }
 
   pub planned : Planned N ws v b (state_number st) (place_of q) i plan
   unfolding pass_of own anew op_of enter
@@ -131,17 +129,6 @@ module _ (rows names text : List ℕ) (v : Walk) (b : ℕ) (st : State) (q : Pla
   pub unchanged_rows : dressed rows names text v plan ≡ node h.kind h.attr h.name (inside rows names text v n) none
   unfolding dress build_s build top_s op_of
   unchanged_rows = rw (slot_back _ (place_slot q), U.stays.bare, H.kind, U.stays.unclosed) refl
-
-  -- what the walk of its children needs
-  pub unchanged_inner : At rows (rows_in rows) i → GivenNames names text → Holds names text v (rows_in rows) → b ≤ 16384 → FramesBelow v.bindings.cap (place_of q).ctx → InnerPre rows names text v n
-  unchanged_inner g names-given holds bound low = record {
-    range = record { bytes = g.bytes; few = g.few; nested = g.nested; range = subst (λ (x : ℕ). Range ws (rows_in rows) x n.end) (sym E.from) (subst (Range ws (rows_in rows) (i + 1)) (sym E.end) (inner ws (rows_in rows) g.nested i g.row)) };
-    named = names-given;
-    holds = holds;
-    bound = subst (λ (x : ℕ). x ≤ 16384) (sym E.bind) bound;
-    first = subst (λ (s : Spot). FramesBelow v.bindings.cap s.ctx) (sym E.one) low;
-    later = subst (λ (s : Spot). FramesBelow v.bindings.cap s.ctx) (sym E.more) low;
-  }
 
 -- a row without children
 pub no_children : (rows names text : List ℕ) (v : Walk) (n : Siblings) → n.end ≤ n.from → inside rows names text v n ≡ none

@@ -7,6 +7,8 @@ use Prim.Native.Nat.{ℕ, ◌+◌, ◌<◌, ◌≤◌}
 use native.Mathlib.Omega.{arith}
 use lib.Dec.{eqb}
 use borrow.Author.Tests.{eqb-true, eqb-false, not-false, not-true}
+use Rattle.grammar.specs.Codes.{listed}
+use Rattle.grammar.proofs.Listed.{test_listed}
 use Rattle.grammar.specs.Kinds.{Program, ExprStmt, This, Ident, Member, Call, Sequence}
 use Rattle.forest.specs.Forest.{Rows, Rows.none, Rows.node, size}
 use Rattle.steps.specs.Naming.{Names}
@@ -21,15 +23,20 @@ use Rattle.steps.specs.TopInsertion.{var_first}
 use Rattle.steps.specs.Walk.{build}
 use Rattle.steps.specs.Fused.{top_s, build_s, declared}
 use Rattle.bindings.specs.Store.{Store, capture_at}
+use Rattle.bindings.specs.declared.view.Bindings.{Bindings}
 use Rattle.bindings.proofs.Captures.{table_is}
 use Rattle.bindings.proofs.Numbered.{number_capture, this_number}
 use Rattle.insertion.specs.Declarations.{frame_decls}
 use Rattle.insertion.proofs.Tops.{frame-decls}
-use Rattle.passes.specs.View.{slot_number, op_of}
+use Rattle.passes.proofs.Kinded.{closes_listed}
+use Rattle.passes.specs.View.{slot_number, op_of, in_sequence, is_behind}
 use Rattle.output.specs.Output.{Done}
-use Rattle.output.proofs.Writing.{size-one, size-leaf}
+use Rattle.output.proofs.Writing.{size-one, size-leaf, size_node}
 use Rattle.inserted.proofs.Shapes.{size-assignment}
 use Rattle.plan.specs.Placing.{place_of}
+use Rattle.uses.specs.declared.Access.{Access}
+use Rattle.emit_plan.specs.declared.Inner.{Inner}
+use Rattle.emit_plan.specs.Inside.{rows_of, called_with, assignment_if}
 use Rattle.emit_plan.specs.declared.Walk.{Walk}
 use Rattle.emit_plan.specs.declared.Siblings.{Siblings}
 use Rattle.emit_plan.specs.declared.Plan.{Plan}
@@ -83,7 +90,7 @@ module _ (rows names text : List ℕ) (v : Walk) (sl k : ℕ) (n : Siblings) whe
   kept_inside h = open_topped (function_open k sl h)
 
   -- the Var goes first
-  pub top-join : Store v.bindings.made.now v.bindings.cap v.bindings.count → (place_of n.more).ctx.this_at < v.bindings.cap → topped rows names text v sl k n ≡ join (top_rows v sl k (place_of n.more).ctx.this_at) inn
+  pub top-join : Store v.bindings.made.now v.bindings.cap v.bindings.count → (place_of n.more).ctx.this_at < v.bindings.cap → topped rows names text v sl k n ≡ join (top_rows v.bindings sl k (place_of n.more).ctx.this_at) inn
   unfolding top_s
   top-join S h = go (closes sl k)
     where
@@ -92,8 +99,12 @@ module _ (rows names text : List ℕ) (v : Walk) (sl k : ℕ) (n : Siblings) whe
       go true = ap (λ (d : Rows). var_first d inn) (frame-decls N v.bindings.made.now v.bindings.cap v.bindings.count (place_of n.more).ctx.this_at (eqb k Program) (eqb sl late_body) S h) ∙ first-join _ inn
       go false = sym (nothing-first inn)
 
-  pub top-size : Store v.bindings.made.now v.bindings.cap v.bindings.count → (place_of n.more).ctx.this_at < v.bindings.cap → size (topped rows names text v sl k n) ≡ size (top_rows v sl k (place_of n.more).ctx.this_at) + size inn
+  pub top-size : Store v.bindings.made.now v.bindings.cap v.bindings.count → (place_of n.more).ctx.this_at < v.bindings.cap → size (topped rows names text v sl k n) ≡ size (top_rows v.bindings sl k (place_of n.more).ctx.this_at) + size inn
   top-size S h = ap size (top-join S h) ∙ size-join _ inn
+
+-- the Var by the kind of the row, whose word may be none of the list
+pub top_told : (b : Bindings) (sl k r k' r' : ℕ) → k' ≡ listed k → r' ≡ r → top_rows b sl k' r' ≡ top_rows b sl k r
+top_told b sl k r k' r' p q = rw (p, q, closes_listed sl k, test_listed k Program refl)
 
 module _ (rows names text : List ℕ) (v : Walk) (p : Plan) where
   abbrev NN : Names
@@ -103,31 +114,33 @@ module _ (rows names text : List ℕ) (v : Walk) (p : Plan) where
   I = inside rows names text v p.inner
 
   abbrev T : Rows
-  T = topped rows names text v (slot_number p.slot) p.words.kind p.inner
+  T = topped rows names text v (slot_number p.slot) p.head.kind p.inner
 
-  closed-not : closes (slot_number p.slot) p.words.kind ≡ false → T ≡ I
-  closed-not h = open_topped rows names text v (slot_number p.slot) p.words.kind p.inner h
+  closed-not : closes (slot_number p.slot) p.head.kind ≡ false → T ≡ I
+  closed-not h = open_topped rows names text v (slot_number p.slot) p.head.kind p.inner h
 
   module _ (F : Formed p) where
     abbrev row_of : Rows → Rows → Rows
-    row_of i s = node p.words.kind p.words.attr p.words.name i s
+    row_of i s = node p.head.kind p.head.attr p.head.name i s
 
     -- a statement
-    pub statement-rows : is_statement p.words.kind ≡ true → eqb (slot_number p.slot) wrapped ≡ false
-        → dressed rows names text v p ≡ row_of I (cond p.first (node ExprStmt 0 0 (assignment p.bind) none) none)
+    pub statement-rows : is_statement p.head.kind ≡ true → eqb (slot_number p.slot) wrapped ≡ false → dressed rows names text v p ≡ row_of I (assignment_if (is_behind p.assigned) p.bind)
     unfolding dress build_s build
     statement-rows h w =
         let f = F.statement h in
-        rw (w, f.1.0, f.0) (ap (λ (t : Rows). row_of t (cond p.first (node ExprStmt 0 0 (assignment p.bind) none) none)) (closed-not f.1.1))
+        rw (w, f.1.0, f.0) (ap (λ (t : Rows). row_of t (assignment_if (is_behind p.assigned) p.bind)) (closed-not f.1.1))
+
+    pub statement-size : is_statement p.head.kind ≡ true → eqb (slot_number p.slot) wrapped ≡ false → size (dressed rows names text v p) ≡ 1 + size I + size (assignment_if (is_behind p.assigned) p.bind)
+    statement-size h w = ap size (statement-rows h w) ∙ size_node p.head.kind p.head.attr p.head.name I (assignment_if (is_behind p.assigned) p.bind)
 
     -- a called Super
-    pub sequence-rows : p.met ≡ true → p.first ≡ false → built rows names text v p none ≡ node Sequence 0 0 (row_of I (assignment p.bind)) none
+    pub sequence-rows : in_sequence p.assigned ≡ true → is_behind p.assigned ≡ false → built rows names text v p none ≡ node Sequence 0 0 (row_of I (assignment p.bind)) none
     unfolding build_s build
     sequence-rows h g =
         let f = F.met h in
         rw (h, f.0) (ap (λ (t : Rows). node Sequence 0 0 (row_of t (assignment p.bind)) none) (closed-not f.1))
 
-    module _ (m : p.met ≡ false) (g : p.first ≡ false) where
+    module _ (m : in_sequence p.assigned ≡ false) (g : is_behind p.assigned ≡ false) where
       pub row-rows : (k a n : ℕ) → op_of p.op ≡ row k a n → built rows names text v p none ≡ node k a n T none
       unfolding build_s build
       row-rows k a n h = rw (m, g, h) refl
@@ -185,27 +198,12 @@ module _ (rows names text : List ℕ) (v : Walk) (p : Plan) where
           let z = ap size (called-rows u f x h S low) in
           omega (arith, this_size v.bindings.made.now v.bindings.cap (place_of p.spot).ctx.takes_this (place_of p.spot).ctx.this_at)
 
-    pub sequence-size : p.met ≡ true → p.first ≡ false → size (built rows names text v p none) ≡ 6 + size I
+    pub sequence-size : in_sequence p.assigned ≡ true → is_behind p.assigned ≡ false → size (built rows names text v p none) ≡ 6 + size I
     unfolding size
     sequence-size h g = let z = ap size (sequence-rows h g) in omega (arith, size-assignment p.bind)
 
-    module _ (h : is_statement p.words.kind ≡ true) (w : eqb (slot_number p.slot) wrapped ≡ false) where
-      pub statement-plain : p.first ≡ false → dressed rows names text v p ≡ row_of I none
-      statement-plain g = statement-rows h w ∙ ap (λ (y : Bool). row_of I (cond y (node ExprStmt 0 0 (assignment p.bind) none) none)) g
-
-      pub statement-assigned : p.first ≡ true → dressed rows names text v p ≡ row_of I (node ExprStmt 0 0 (assignment p.bind) none)
-      statement-assigned g = statement-rows h w ∙ ap (λ (y : Bool). row_of I (cond y (node ExprStmt 0 0 (assignment p.bind) none) none)) g
-
-      pub statement-least : 1 + size I ≤ size (dressed rows names text v p)
-      unfolding size
-      statement-least = let z = ap size (statement-rows h w) in omega arith
-
-      pub assigned-size : p.first ≡ true → size (dressed rows names text v p) ≡ 6 + size I
-      unfolding size
-      assigned-size g = let z = ap size (statement-assigned g) in omega (arith, size-assignment p.bind)
-
     -- which walker a row of a list goes to
-    pub expression-first : {b : Bool} → b ≡ eqb (slot_number p.slot) wrapped → (r : Bool) → r ≡ is_statement p.words.kind → (r && not b) ≡ false → p.first ≡ false
+    pub expression-first : {b : Bool} → b ≡ eqb (slot_number p.slot) wrapped → (r : Bool) → r ≡ is_statement p.head.kind → (r && not b) ≡ false → is_behind p.assigned ≡ false
     expression-first {b} t true e h = F.dressing (sym t ∙ not-false b h)
     expression-first t false e h = F.other (sym e)
 
@@ -218,9 +216,14 @@ statement_test k s t false e h = absurd (true≢false (sym h))
 pub leaf-next : {o o' : List ℕ} {at k a n r : ℕ} → Done o at (node k a n none none) r o' → r ≡ at + 1
 leaf-next {o} {o'} {at} {k} {a} {n} {r} d = omega (arith, size-leaf k a n, d.next)
 
-pub call_row_size : (b : ℕ) (f : Rows) → size (node Call 0 0 (node Ident 1 b none f) none) ≡ 2 + size f
+-- what stands inside in the Call of an accessor
+pub called_size_of : (n : Inner) (u : Access) (f x : ℕ) → size (called_with n u f x) ≡ 2 + size (rows_of n)
 unfolding size
-call_row_size b f = omega arith
+called_size_of n u f x = omega arith
+
+-- the assignment as a statement
+pub assignment_if_size : (b : ℕ) {first : Bool} → first ≡ true → size (assignment_if first b) ≡ 5
+assignment_if_size b e = let z = ap (λ (y : Bool). size (assignment_if y b)) e in omega (arith, size-one ExprStmt 0 0 (assignment b), size-assignment b)
 
 pub as_called : {o : Op} {u f x : ℕ} {t s : Bool} → o ≡ call u f x t → t ≡ s → o ≡ call u f x s
 as_called {o} {u} {f} {x} {t} {s} h e = h ∙ ap (call u f x) e

@@ -3,4 +3,5 @@ pub mod Walkers
 pub mod Idents
 pub mod Top
 pub mod Unchanged
+pub mod Inside
 pub mod Dressing

@@ -1,5 +1,5 @@
 -- What is written for a row, by the plan that was made for it outside the walk, and what the walkers know. Assumes nothing.
-use Rattle.std.specs.Prelude.{ℕ, ◌+◌, ◌≤◌, ◌<◌, ◌≡◌, true, false, List, eqb}
+use Rattle.std.specs.Prelude.{ℕ, ◌+◌, ◌≤◌, ◌≡◌, true, false, List, eqb}
 use Rattle.names.specs.Words.{words, rows_in, kind_at, attr_at, name_at, end_at}
 use Rattle.forest.specs.Forest.{Rows, Rows.none, rows_at, table}
 use Rattle.spelling.specs.Spelling.{GivenNames}
@@ -15,7 +15,7 @@ use Rattle.steps.specs.Context.{Spot, spot, start, act_c}
 use Rattle.steps.specs.Fused.{pass_of, top_s, build_s, emit_s}
 use Rattle.bindings.specs.Store.{binds}
 use Rattle.bindings.specs.Filed.{Filed, behind}
-use Rattle.passes.specs.View.{slot_number, state_number, op_of, Says}
+use Rattle.passes.specs.View.{slot_number, state_number, op_of, in_sequence, is_behind, Says}
 use Rattle.below.specs.Below.{children}
 use Rattle.passes.specs.declared.Pass.{Pass}
 use Rattle.acts.specs.View.{switches_of}
@@ -53,7 +53,7 @@ module _ (rows names text : List ℕ) (v : Walk) where
 
   -- what the row becomes, before the rows s
   abbrev pub built : Plan → Rows → Rows
-  built p = build_s (names_of names text) (list_of v) (place_of p.spot).ctx p.bind p.met p.first (op_of p.op) (topped (slot_number p.slot) p.words.kind p.inner)
+  built p = build_s (names_of names text) (list_of v) (place_of p.spot).ctx p.bind (in_sequence p.assigned) (is_behind p.assigned) (op_of p.op) (topped (slot_number p.slot) p.head.kind p.inner)
 
   -- and in the Body and Return of an expression body
   abbrev pub dressed : Plan → Rows
@@ -79,15 +79,11 @@ InnerPre rows names text v n = ListPre rows names text v n.bind (place_of n.one)
 
 -- what a kind says of its plan: the cases that need not be written
 pub record Formed (p : Plan) : Type 0 where
-  pub statement : is_statement p.words.kind ≡ true → (op_of p.op ≡ row p.words.kind p.words.attr p.words.name) × ((p.met ≡ false) × (closes (slot_number p.slot) p.words.kind ≡ false))
-  pub other : is_statement p.words.kind ≡ false → p.first ≡ false
-  pub dressing : eqb (slot_number p.slot) wrapped ≡ true → p.first ≡ false
-  pub met : p.met ≡ true → (op_of p.op ≡ row p.words.kind p.words.attr p.words.name) × (closes (slot_number p.slot) p.words.kind ≡ false)
-  pub rowless : is_row (op_of p.op) ≡ false → closes (slot_number p.slot) p.words.kind ≡ false
-
--- three words that fit 32 bits
-abbrev pub Fit : (k a n : ℕ) → Type 0
-Fit k a n = (k < 4294967296) × ((a < 4294967296) × (n < 4294967296))
+  pub statement : is_statement p.head.kind ≡ true → (op_of p.op ≡ row p.head.kind p.head.attr p.head.name) × ((in_sequence p.assigned ≡ false) × (closes (slot_number p.slot) p.head.kind ≡ false))
+  pub other : is_statement p.head.kind ≡ false → is_behind p.assigned ≡ false
+  pub dressing : eqb (slot_number p.slot) wrapped ≡ true → is_behind p.assigned ≡ false
+  pub met : in_sequence p.assigned ≡ true → (op_of p.op ≡ row p.head.kind p.head.attr p.head.name) × (closes (slot_number p.slot) p.head.kind ≡ false)
+  pub rowless : is_row (op_of p.op) ≡ false → closes (slot_number p.slot) p.head.kind ≡ false
 
 -- what the walkers of a row need
 pub record RowPre (rows names text : List ℕ) (v : Walk) (p : Plan) : Type 0 where
@@ -95,7 +91,6 @@ pub record RowPre (rows names text : List ℕ) (v : Walk) (p : Plan) : Type 0 wh
   pub here : FramesBelow v.bindings.cap (place_of p.spot).ctx
   pub bound : p.bind ≤ 16384
   pub low : OpLow v.bindings.cap (op_of p.op)
-  pub fit : Fit p.words.kind p.words.attr p.words.name
   pub formed : Formed p
 
 -- the parts of a plan that were decided: its act, and what module 7 says
@@ -103,7 +98,7 @@ abbrev pub act_in : Plan → Act Place
 act_in p = record { op = p.op; one = p.inner.one; more = p.inner.more }
 
 abbrev pub pass_in : Plan → Pass
-pass_in p = record { met = p.met; first = p.first; scan = p.inner.state; next = p.next; bind = p.inner.bind }
+pass_in p = record { assigned = p.assigned; scan = p.inner.state; next = p.next; bind = p.inner.bind }
 
 -- the frame inside the row
 abbrev pub frame_in : Plan → ℕ
@@ -116,9 +111,9 @@ pub record Planned (N : Names) (ws : List ℕ) (v : Walk) (b sc : ℕ) (q : Spot
   pub spot : place_of p.spot ≡ q
   pub slot : slot_number p.slot ≡ q.slot
   pub bind : p.bind ≡ b
-  pub kind : p.words.kind ≡ kind_at ws i
-  pub attr : p.words.attr ≡ attr_at ws i
-  pub name : p.words.name ≡ name_at ws i
+  pub kind : p.head.kind ≡ kind_at ws i
+  pub attr : p.head.attr ≡ attr_at ws i
+  pub name : p.head.name ≡ name_at ws i
   pub does : Takes (switches_of v.switches) q.ctx (act_c N (switches_of v.switches) q i (kind_at ws i) (attr_at ws i) (name_at ws i) (children ws i)) (act_in p)
   pub says : Says (pass_in p) (pass_of b sc q.slot (kind_at ws i) (number N (list_of v) 1 (frame_in p) 0) (first_super (children ws i)) (super_call (children ws i)) (op_of p.op))
 

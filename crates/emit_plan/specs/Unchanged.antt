@@ -7,13 +7,12 @@ use Rattle.steps.specs.AfterSuper.{list, visit, super_call}
 use Rattle.steps.specs.Acts.{Op.row}
 use Rattle.steps.specs.Context.{Spot, spot}
 use Rattle.steps.specs.Fused.{met_of, direct_of, scan_of, next_of}
-use Rattle.acts.specs.declared.act.Words.{Words}
+use Rattle.emit_plan.specs.declared.Head.{Head}
 use Rattle.passes.specs.View.{state_number}
 use Rattle.below.specs.Below.{children}
 use Rattle.plan.specs.Placing.{place_of}
 use Rattle.plan.specs.Staying.{Stays}
 use Rattle.emit_plan.specs.declared.Siblings.{Siblings}
-use Rattle.emit_plan.specs.Plans.{Fit}
 
 -- the state inside a row that module 7 leaves alone: a statement list's rows are visited
 abbrev pub inside_state : ℕ → ℕ
@@ -32,11 +31,10 @@ pub record Unchanged (w : Switches) (q : Spot) (sc : ℕ) (ws : List ℕ) (i : �
   pub stays : Stays w q (kind_at ws i) (attr_at ws i)
 
 -- the words of row i
-pub record WordsOf (ws : List ℕ) (i : ℕ) (h : Words) : Type 0 where
+pub record WordsOf (ws : List ℕ) (i : ℕ) (h : Head) : Type 0 where
   pub kind : h.kind ≡ kind_at ws i
   pub attr : h.attr ≡ attr_at ws i
   pub name : h.name ≡ name_at ws i
-  pub fit : Fit h.kind h.attr h.name
 
 -- the children of row i, in the context of its place and in the state inside it, where b is assigned
 pub record Along (ws : List ℕ) (b sc : ℕ) (q : Spot) (i : ℕ) (n : Siblings) : Type 0 where

@@ -1,6 +1,6 @@
 // The Idents of bindings, each written behind what the writer has put.
-ghost use Rattle.std.specs.Prelude.{◌≡◌, cond, ◌+◌, ◌<◌, ◌^◌};
-ghost use Rattle.grammar.specs.Kinds.{Ident, This};
+ghost use Rattle.std.specs.Prelude.{◌≡◌, ◌+◌, ◌<◌, ◌^◌};
+ghost use Rattle.grammar.specs.Kinds.{Ident};
 ghost use Rattle.forest.specs.Forest.{Rows.none, Rows.node};
 ghost use Rattle.steps.specs.Outcome.{names_of};
 ghost use Rattle.steps.specs.Bindings.{number};
@@ -10,9 +10,7 @@ ghost use Rattle.uses.specs.Uses.{capture_number, access_number};
 ghost use Rattle.output.specs.Held.{Puts};
 ghost use Rattle.emit_plan.specs.Idents.{this_row};
 
-use acts::context::Context;
 use bindings::frame::Frame;
-use bindings::view::Bindings;
 use grammar::kind::Kind;
 use output::writer::Writer;
 use spelling::Names;
@@ -30,19 +28,14 @@ pub fn captured_identifier(frame: Frame<'_>, usage: Capture, w: &mut Writer<'_>)
     }
 }
 
-// The This of a place, captured or not.
-pub fn get_this_identifier(bindings: Bindings<'_>, context: Context, w: &mut Writer<'_>)
-    requires frame_low { context.this_at < bindings.cap }
-    requires at_bound { w.old.at + 1 < 2 ^ 32 }
+// The This of a place: captured in that frame where it takes one.
+pub fn get_this_identifier(frame: Frame<'_>, takes_this: bool, w: &mut Writer<'_>)
+    requires { w.old.at + 1 < 2 ^ 32 }
     ensures same_reference { w.new.rows.ghost_name ≡ w.old.rows.ghost_name }
-    ensures rows { Puts w.old (this_row bindings.entry.made.now bindings.entry.cap context.takes_this context.this_at) w.new }
+    ensures rows { Puts w.old (this_row frame.entry.bindings.made.now frame.entry.bindings.cap takes_this frame.entry.row) w.new }
 {
-    if context.takes_this {
-        let opened = Frame {
-            bindings,
-            row: context.this_at,
-        };
-        return captured_identifier(opened, Capture::This, w);
+    if takes_this {
+        return captured_identifier(frame, Capture::This, w);
     }
     w.leaf(Kind::This as u32, 0, 0);
 }
@@ -58,7 +51,8 @@ pub fn accessor_identifier(
     requires at_bound { w.old.at + 1 < 2 ^ 32 }
     requires filed { Filed names.now.pairs.now names.now.text.now (behind opened.bindings.cap opened.bindings.made.now) opened.bindings.cap (binds opened.bindings.made.now opened.bindings.cap opened.bindings.count) }
     ensures same_reference { w.new.rows.ghost_name ≡ w.old.rows.ghost_name }
-    ensures rows { Puts w.old (node Ident 1 (number (names_of names.now.pairs.now names.now.text.now) (binds opened.entry.bindings.made.now opened.entry.bindings.cap opened.entry.bindings.count) (access_number usage) opened.entry.row property) none none) w.new }
+    ensures rows { Puts w.old (node Ident 1 (number (names_of names.now.pairs.now names.now.text.now)
+        (binds opened.entry.bindings.made.now opened.entry.bindings.cap opened.entry.bindings.count) (access_number usage) opened.entry.row property) none none) w.new }
 {
     let b = opened.accessor(names, usage, property);
     w.leaf(Kind::Ident as u32, 1, b as u32);

@@ -8,12 +8,13 @@ pub mod identifiers;
 pub mod plans;
 pub mod top;
 
-use acts::act::Words;
+ghost use Rattle.emit_plan.specs.Plans.{InnerPreOf};
+
 use acts::switches::Switches;
 use bindings::view::Bindings;
-use passes::Becomes;
 use passes::slots::Slot;
 use passes::states::State;
+use passes::{Assigned, Becomes};
 use plan::place::Place;
 use spelling::Names;
 
@@ -38,18 +39,35 @@ pub struct Siblings {
     pub more: Place,
 }
 
+// A list of siblings in its walk: the rows are whole, one beside the other, and their binding and frames have a place in its bindings.
+#[derive(Clone, Copy)]
+pub struct Inner<'w, 'a, 'b> {
+    pub walk: &'w Walk<'a, 'b>,
+    pub siblings: Siblings,
+    pub ghost known: { InnerPreOf walk.now siblings },
+}
+
+// The words that a row is written with. No `From<Words>` makes it: a `From` asks nothing, and a word of the table is the same in 32 bits only
+// where it is known to be small, which `OpLow` says of a row that is handed on.
+#[derive(Clone, Copy)]
+pub struct Head {
+    pub kind: u32,
+    pub attr: u32,
+    pub name: u32,
+}
+
 // All that is decided of a row before it is written: its children, where it is and its slot, the binding
-// that module 7 assigns around it, its words, what becomes of it, and what module 7 says of it: whether it
-// becomes a Sequence, whether the assignment goes behind it, and the state of the rows after it.
+// that module 7 assigns around it, its words, what becomes of it, and what module 7 says of it: where the
+// assignment goes, and the state of the rows after it. What the walkers need of it, `RowPreOf`, is no fact of its type: it is said of a Plan and a
+// walk, which a Plan does not hold, and a type of both would be built in emit's `list` for `expression` alone, in the place of two `requires`.
 #[derive(Clone, Copy)]
 pub struct Plan {
     pub inner: Siblings,
     pub spot: Place,
     pub slot: Slot,
     pub bind: usize,
-    pub words: Words,
+    pub head: Head,
     pub op: Becomes,
-    pub met: bool,
-    pub first: bool,
+    pub assigned: Assigned,
     pub next: State,
 }

@@ -1,5 +1,5 @@
 // The plan of a row: decided before it is written, outside of the walkers.
-ghost use Rattle.std.specs.Prelude.{◌≡◌, true, ◌||◌, eqb, ℕ, ◌+◌, ◌*◌, ◌≤◌, ◌<◌, length};
+ghost use Rattle.std.specs.Prelude.{◌≡◌, true, ◌||◌, eqb, ◌+◌, ◌*◌, ◌≤◌, ◌<◌, length};
 ghost use Rattle.grammar.specs.Kinds.{Block, Body, Call, Class, Function, StaticBlock};
 ghost use Rattle.names.specs.Words.{words, rows_in};
 ghost use Rattle.steps.specs.AfterSuper.{super_call};
@@ -13,8 +13,7 @@ ghost use Rattle.emit_plan.specs.Walkers.{is_statement, is_function, is_class};
 ghost use Rattle.emit_plan.specs.Plans.{HoldsOf, PlannedOf, RowPreOf};
 ghost use Rattle.emit_plan.specs.Unchanged.{Steady, inside_state, Unchanged, WordsOf, Along};
 
-use crate::{Plan, Siblings, Walk};
-use acts::act::Words;
+use crate::{Head, Plan, Siblings, Walk};
 use acts::switches::Switches;
 use below::{Node, attr_at, end_at, kind_at, name_at};
 use bindings::frame::Frame;
@@ -55,7 +54,7 @@ pub fn is_class(kind: usize) -> bool
 }
 
 // The plan of row i, which stands at `q` in a list of that state. By its number, no Node: the rows are the walk's, and a Node would
-// hold them a second time.
+// hold them a second time. The row's words are read here and in `act_at`, which answers an act alone, as collect, which asks it too, wants no more.
 pub fn plan_at(walk: &Walk<'_, '_>, bind: usize, state: State, q: Place, i: usize) -> Plan
     requires at { At walk.now.rows.now (rows_in walk.now.rows.now) i }
     requires holds { HoldsOf walk.now }
@@ -67,9 +66,10 @@ pub fn plan_at(walk: &Walk<'_, '_>, bind: usize, state: State, q: Place, i: usiz
     let node = Node { rows, at: i };
     let late = is_late(node, &walk.names, walk.switches, q);
     let act = act_at(node, &walk.names, walk.switches, q, late);
-    let words = words_at(rows, i);
+    let head = head_at(rows, i);
     let end = end_at(rows, i);
-    let below = node.look();
+    let sup = node.over_super();
+    let called = node.super_call();
     let op = act.op;
     let one = act.one;
     let more = act.more;
@@ -79,16 +79,8 @@ pub fn plan_at(walk: &Walk<'_, '_>, bind: usize, state: State, q: Place, i: usiz
     };
     let m = opened.this_of() as usize;
     let slot = q.slot();
-    let pass = pass_of(
-        bind,
-        state,
-        slot,
-        words.kind,
-        m,
-        below.first_super,
-        below.super_call,
-        op,
-    );
+    let kind = Kind::from(head.kind as usize);
+    let pass = pass_of(bind, state, slot, kind, m, sup, called, op);
     Plan {
         inner: Siblings {
             from: i + 1,
@@ -101,10 +93,9 @@ pub fn plan_at(walk: &Walk<'_, '_>, bind: usize, state: State, q: Place, i: usiz
         spot: q,
         slot,
         bind,
-        words,
+        head,
         op,
-        met: pass.met,
-        first: pass.first,
+        assigned: pass.assigned,
         next: pass.next,
     }
 }
@@ -167,14 +158,14 @@ pub fn stays_at(node: Node<'_>, switches: Switches, state: State, q: Place) -> b
 }
 
 // The words of row i, of which less is asked than a Node knows.
-pub fn words_at(rows: &[u8], i: usize) -> Words
+pub fn head_at(rows: &[u8], i: usize) -> Head
     requires { 16 * i + 15 < length rows.now }
     ensures { WordsOf (words rows.now) i result }
 {
-    Words {
-        kind: kind_at(rows, i),
-        attr: attr_at(rows, i),
-        name: name_at(rows, i),
+    Head {
+        kind: kind_at(rows, i) as u32,
+        attr: attr_at(rows, i) as u32,
+        name: name_at(rows, i) as u32,
     }
 }
 

@@ -32,7 +32,8 @@ pub fn split_line(s: &[u8]) -> Option<(&[u8], &[u8])>
     split_once(s, NEWLINE).or(Some((s, b"")))
 }
 
-// A decimal u32 without leading zeros.
+// A decimal u32 without leading zeros. Its digits are added up by hand: `parse` takes a `str`, and takes a plus, so that a test of
+// the digits and `from_utf8` would stand before it: no plainer.
 fn read_number(s: &[u8]) -> Option<u32>
     ensures { result ≡ number s.now }
 {
@@ -78,6 +79,9 @@ pub fn read_row(line: &[u8]) -> Option<Row>
         end: read_number(end)?,
     })
 }
+
+// One function for each header: one over an enum would need the enum, a `match` that gives the header's bytes, and a definition
+// of these by the enum's cases besides: no plainer.
 
 #[tactic(auto, using(crate::proofs::Splitting::same_is))]
 pub fn is_switch_header(line: &[u8]) -> bool

@@ -15,7 +15,8 @@ use Rattle.names.specs.Words.{kind_at, attr_at, name_at, end_at}
 use Rattle.grammar.specs.Grammar.{top_place}
 use Rattle.forest.specs.Forest.{Rows, none, node, size, count, flat, tree, rows_at, row_ok, Table}
 use Rattle.forest.specs.Nested.{Nested}
-use Rattle.forest.specs.Faults.{kids, kids_of, told, or_else}
+use Rattle.names.specs.Answered.{or_else}
+use Rattle.forest.specs.Faults.{kids, kids_of, told}
 use Rattle.forest.specs.Told.{told_by, fault_at, lowest_from, lowest_fault}
 use Rattle.forest.specs.declared.Fault.{Fault}
 use Rattle.forest.specs.declared.BadRow.{BadRow}

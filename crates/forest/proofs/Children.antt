@@ -1,4 +1,5 @@
 -- The children of a row, by hopping over ends. Assumes nothing.
+use Rattle.std.specs.Prelude.{Some, None}
 use mathlib.Core.Path.{◌≡◌, refl, ap, sym}
 use mathlib.Core.Bool.{Bool, true, false, cond}
 use mathlib.Core.List.{List, [], ◌∷◌}
@@ -7,7 +8,7 @@ use native.Mathlib.Omega.{arith}
 use borrow.Author.Tests.{lt-ltb, le-ltb, ltb-true, leb-true}
 use lib.Dec.{ltb}
 use Rattle.names.specs.Words.{end_at}
-use Rattle.forest.specs.Faults.{end_good, kids}
+use Rattle.forest.specs.Faults.{end_good, kids, faulty_kid}
 use Rattle.names.proofs.Bools.{and_left, and_right}
 
 pub good-past : (ws : List ℕ) (c e : ℕ) → end_good ws c e ≡ true → c < end_at ws c
@@ -28,6 +29,20 @@ pub kids_done : (ws : List ℕ) (f c e : ℕ) → e ≤ c → kids ws f c e ≡ 
 unfolding kids
 kids_done ws zero c e h = refl
 kids_done ws (suc f) c e h = rw (le-ltb c e h)
+
+-- the same of the one whose `end` is at fault
+pub faulty-good : (ws : List ℕ) (f c e : ℕ) → c < e → end_good ws c e ≡ true → faulty_kid ws (suc f) c e ≡ faulty_kid ws f (end_at ws c) e
+unfolding faulty_kid
+faulty-good ws f c e h g = rw (lt-ltb c e h, g)
+
+pub faulty-bad : (ws : List ℕ) (f c e : ℕ) → c < e → end_good ws c e ≡ false → faulty_kid ws (suc f) c e ≡ Some c
+unfolding faulty_kid
+faulty-bad ws f c e h g = rw (lt-ltb c e h, g)
+
+pub faulty_done : (ws : List ℕ) (f c e : ℕ) → e ≤ c → faulty_kid ws f c e ≡ None
+unfolding faulty_kid
+faulty_done ws zero c e h = refl
+faulty_done ws (suc f) c e h = rw (le-ltb c e h)
 
 -- more fuel than rows changes nothing
 same-kids : (b g : Bool) (c : ℕ) (K L : List ℕ) → (b ≡ true → g ≡ true → K ≡ L) → cond b (cond g (c ∷ K) (c ∷ [])) [] ≡ cond b (cond g (c ∷ L) (c ∷ [])) []

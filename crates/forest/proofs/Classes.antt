@@ -10,10 +10,11 @@ use native.Mathlib.Omega.{arith}
 use lib.Dec.{eqb, ltb}
 use lib.ListN.{length}
 use Rattle.names.specs.Words.{kind_at, attr_at, name_at, end_at}
+use Rattle.names.specs.Answered.{or_else}
 use Rattle.grammar.specs.Kinds.{Function, Class}
 use Rattle.grammar.specs.Grammar.{bit1, bit2, bit3, top_place, statement_place, place_of, kind_ok, attr_ok, fits, count_ok, name_ok}
-use Rattle.forest.specs.Faults.{end_good, kids_of, class_of, early_fault, late_fault, fault_of, told, or_else, fault_from, first_fault}
-use Rattle.forest.specs.Bad.{bad_at, or_later, bad_from, first_bad, row_of}
+use Rattle.forest.specs.Faults.{end_good, kids_of, class_of, early_fault, late_fault, fault_of, told, fault_from, first_fault}
+use Rattle.forest.specs.Bad.{bad_at, bad_from, first_bad, row_of}
 use Rattle.forest.specs.declared.Fault.{Fault}
 use Rattle.forest.specs.declared.Fault.TheVariants.{Kind, Attr, End, Place, Name}
 use Rattle.forest.specs.declared.BadRow.{BadRow}
@@ -33,9 +34,9 @@ six true false false fit count name = refl
 six false attr true fit count name = refl
 six false attr false fit count name = refl
 
-row_or : (u v : Option BadRow) {x y : Option ℕ} → row_of u ≡ x → row_of v ≡ y → row_of (or_else u v) ≡ or_later x y
-row_or None v {x} {y} p q = q ∙ ap (λ (w : Option ℕ). or_later w y) p
-row_or (Some bad) v {x} {y} p q = ap (λ (w : Option ℕ). or_later w y) p
+row_or : (u v : Option BadRow) {x y : Option ℕ} → row_of u ≡ x → row_of v ≡ y → row_of (or_else u v) ≡ or_else x y
+row_or None v {x} {y} p q = q ∙ ap (λ (w : Option ℕ). or_else w y) p
+row_or (Some bad) v {x} {y} p q = ap (λ (w : Option ℕ). or_else w y) p
 
 row_within : (b : Bool) (u : Option BadRow) (v : Option ℕ) → row_of u ≡ v → row_of (cond b u None) ≡ cond b v None
 row_within true u v h = h

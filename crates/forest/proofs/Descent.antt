@@ -9,22 +9,20 @@ use native.Mathlib.Omega.{arith}
 use borrow.Author.Tests.{lt-ltb, le-ltb, le-leb, eqb-true}
 use lib.Dec.{eqb, ltb, leb, lit<}
 use Rattle.names.specs.Words.{kind_at, attr_at, end_at}
+use Rattle.names.specs.Answered.{or_else}
 use Rattle.grammar.specs.Grammar.{top_place, place_of}
-use Rattle.forest.specs.Faults.{end_good, fault_of, told, or_else, fault_from, first_fault}
+use Rattle.forest.specs.Faults.{end_good, fault_of, told, fault_from, first_fault}
 use Rattle.forest.specs.Told.{told_by, mark, marks, top_mark, mark_at, fault_at, lowest_from, lowest_fault}
 use Rattle.forest.specs.declared.Fault.{Fault}
 use Rattle.forest.specs.declared.BadRow.{BadRow}
 use Rattle.names.proofs.Bools.{lt_or_ge}
+use Rattle.names.proofs.OrElse.{or_assoc}
 use Rattle.forest.proofs.Children.{good-past, good-within}
 use Rattle.forest.proofs.Telling.{told_child, tells_next}
 use Rattle.forest.proofs.Visits.{early_none}
 use Rattle.grammar.proofs.Places.{place-small}
 use Rattle.forest.proofs.Marks.{mark-place, mark-ends}
 use Rattle.forest.proofs.Nesting.{Before, before_next, within-next, met, Says, says_first}
-
-or_assoc : (u v w : Option BadRow) → or_else (or_else u v) w ≡ or_else u (or_else v w)
-or_assoc None v w = refl
-or_assoc (Some b) v w = refl
 
 which : (v : Option BadRow) → (v ≡ None) ⊎ ((b : BadRow) × (v ≡ Some b))
 which None = inl refl

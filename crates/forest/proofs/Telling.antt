@@ -1,4 +1,5 @@
 -- Whatever goes from parents to children: what a walk over a row's children leaves in an array, and what a row has been told by the time it is met. Assumes nothing.
+use Rattle.std.specs.Prelude.{Option, Some, None}
 use mathlib.Core.Path.{◌≡◌, refl, ap, sym, subst, ◌∙◌}
 use mathlib.Core.Bool.{Bool, true, false, cond, ◌&&◌}
 use mathlib.Core.List.{List, [], ◌∷◌}
@@ -11,14 +12,15 @@ use lib.Dec.{eqb, ltb, leb, eqb-suc-zero}
 use lib.ListN.{get_or, length, set, length-set, replicate, length-replicate}
 use lib.Seq.{get_or-set_same, get_or-set_other}
 use Rattle.names.specs.Words.{words, end_at}
+use Rattle.names.proofs.Bools.{cond-le}
 use Rattle.names.proofs.Zeros.{zeros}
-use Rattle.forest.specs.Faults.{end_good, kids, kids_of}
+use Rattle.forest.specs.Faults.{end_good, kids, faulty_kid, kids_of}
 use Rattle.forest.specs.Children.{ChildAt, NoChild}
-use Rattle.forest.specs.Told.{told_in, told_by, Fresh, first_then, to_all}
-use Rattle.forest.proofs.Children.{good-past, kids-good, kids-bad, kids_done}
+use Rattle.forest.specs.Told.{told_in, told_by, deeper, Fresh, first_then, to_all}
+use Rattle.forest.proofs.Children.{good-past, kids-good, kids-bad, kids_done, faulty-good, faulty-bad, faulty_done}
 
-module _ (ws : List ℕ) (say : ℕ → ℕ → ℕ) (e : ℕ) where
-  skip : (pos c : ℕ) (K : List ℕ) (j v : ℕ) (b g : Bool) → (b ≡ true → eqb j c ≡ false) → (g ≡ true → told_in say (pos + 1) K j v ≡ v)
+module _ {A : Type 0} (ws : List ℕ) (say : ℕ → ℕ → A) (e : ℕ) where
+  skip : (pos c : ℕ) (K : List ℕ) (j : ℕ) (v : A) (b g : Bool) → (b ≡ true → eqb j c ≡ false) → (g ≡ true → told_in say (pos + 1) K j v ≡ v)
       → told_in say pos (cond b (cond g (c ∷ K) (c ∷ [])) []) j v ≡ v
   unfolding told_in
   skip pos c K j v false g n h = refl
@@ -26,7 +28,7 @@ module _ (ws : List ℕ) (say : ℕ → ℕ → ℕ) (e : ℕ) where
   skip pos c K j v true true n h = rw (n refl) (h refl)
 
   -- the children from c on are told nothing below c
-  pub told_below : (f pos c j v : ℕ) → j < c → told_in say pos (kids ws f c e) j v ≡ v
+  pub told_below : (f pos c j : ℕ) (v : A) → j < c → told_in say pos (kids ws f c e) j v ≡ v
   unfolding kids told_in
   told_below zero pos c j v h = refl
   told_below (suc f) pos c j v h =
@@ -34,7 +36,7 @@ module _ (ws : List ℕ) (say : ℕ → ℕ → ℕ) (e : ℕ) where
       (λ g. told_below f (pos + 1) (end_at ws c) j v (omega (arith, good-past ws c e g)))
 
   -- and nothing from the end e on
-  pub told-above : (f pos c j v : ℕ) → e ≤ j → told_in say pos (kids ws f c e) j v ≡ v
+  pub told-above : (f pos c j : ℕ) (v : A) → e ≤ j → told_in say pos (kids ws f c e) j v ≡ v
   unfolding kids told_in
   told-above zero pos c j v h = refl
   told-above (suc f) pos c j v h =
@@ -43,48 +45,50 @@ module _ (ws : List ℕ) (say : ℕ → ℕ → ℕ) (e : ℕ) where
       (λ g. told-above f (pos + 1) (end_at ws c) j v h)
 
   -- the first of the children has the position that the count starts with
-  head_kid : (pos c : ℕ) (K : List ℕ) (v : ℕ) (g : Bool) → told_in say pos (cond g (c ∷ K) (c ∷ [])) c v ≡ say pos c
+  head_kid : (pos c : ℕ) (K : List ℕ) (v : A) (g : Bool) → told_in say pos (cond g (c ∷ K) (c ∷ [])) c v ≡ say pos c
   unfolding told_in
   head_kid pos c K v true = rw (eq-eqb c c refl)
   head_kid pos c K v false = rw (eq-eqb c c refl)
 
-  pub told-head : (f pos c v : ℕ) → c < e → told_in say pos (kids ws (suc f) c e) c v ≡ say pos c
+  pub told-head : (f pos c : ℕ) (v : A) → c < e → told_in say pos (kids ws (suc f) c e) c v ≡ say pos c
   unfolding kids
   told-head f pos c v h = rw (lt-ltb c e h) (head_kid pos c (kids ws f (end_at ws c) e) v (end_good ws c e))
 
   -- a later row is not the child that was passed
-  pub told-next : (pos c f j v : ℕ) → c < e → end_good ws c e ≡ true → c < j → told_in say pos (kids ws (suc f) c e) j v ≡ told_in say (pos + 1) (kids ws f (end_at ws c) e) j v
+  pub told-next : (pos c f j : ℕ) (v : A) → c < e → end_good ws c e ≡ true → c < j → told_in say pos (kids ws (suc f) c e) j v ≡ told_in say (pos + 1) (kids ws f (end_at ws c) e) j v
   unfolding told_in
   told-next pos c f j v ce g h = rw (kids-good ws f c e ce g, ne_eqb j c (λ q. omega arith))
 
   -- one child more is told
-  one : (K R : List ℕ) (pos c j r : ℕ) (t : Bool) → eqb j c ≡ t → c < length R → (j ≤ c → (v : ℕ) → told_in say (pos + 1) K j v ≡ v)
-      → say pos c ≡ r → told_in say pos (c ∷ K) j (get_or R j 0) ≡ told_in say (pos + 1) K j (get_or (set R c r) j 0)
+  one : (K : List ℕ) (R : List A) (d : A) (pos c j : ℕ) (r : A) (t : Bool) → eqb j c ≡ t → c < length R → (j ≤ c → (v : A) → told_in say (pos + 1) K j v ≡ v)
+      → say pos c ≡ r → told_in say pos (c ∷ K) j (get_or R j d) ≡ told_in say (pos + 1) K j (get_or (set R c r) j d)
   unfolding told_in
-  one K R pos c j r true q l b m =
+  one K R d pos c j r true q l b m =
       let jc : j ≡ c = eqb-true j c q in
-      rw q (m ∙ sym (b (omega arith) (get_or (set R c r) j 0) ∙ ap (λ (x : ℕ). get_or (set R c r) x 0) jc ∙ get_or-set_same R c r 0 l))
-  one K R pos c j r false q l b m =
-      rw q (ap (λ (x : ℕ). told_in say (pos + 1) K j x) (sym (get_or-set_other R c j r 0 (eqb-false j c q))))
+      rw q (m ∙ sym (b (omega arith) (get_or (set R c r) j d) ∙ ap (λ (x : ℕ). get_or (set R c r) x d) jc ∙ get_or-set_same R c r d l))
+  one K R d pos c j r false q l b m =
+      rw q (ap (λ (x : A). told_in say (pos + 1) K j x) (sym (get_or-set_other R c j r d (eqb-false j c q))))
 
   -- The walk over the children at child c, which has position pos: what is still to be told and counted, on top of what has been, gives the whole.
-  pub record Telling (size c0 : ℕ) (R₀ R : List ℕ) (c pos : ℕ) : Type 0 where
+  pub record Telling (size c0 : ℕ) (R₀ R : List A) (c pos : ℕ) : Type 0 where
     pub fuel : ℕ
     pub room : e ≤ c + fuel
     pub long : length R ≡ size
     pub many : length (kids ws e c0 e) ≡ pos + length (kids ws fuel c e)
-    pub rest : (j : ℕ) → told_in say 0 (kids ws e c0 e) j (get_or R₀ j 0) ≡ told_in say pos (kids ws fuel c e) j (get_or R j 0)
+    pub fault : faulty_kid ws e c0 e ≡ faulty_kid ws fuel c e
+    pub rest : (d : A) (j : ℕ) → told_in say 0 (kids ws e c0 e) j (get_or R₀ j d) ≡ told_in say pos (kids ws fuel c e) j (get_or R j d)
 
-  pub tell_start : (size c0 : ℕ) (R : List ℕ) → length R ≡ size → Telling size c0 R R c0 0
-  tell_start size c0 R l = record { fuel = e; room = omega arith; long = l; many = sym (zero-add _); rest = λ j. refl }
+  pub tell_start : (size c0 : ℕ) (R : List A) → length R ≡ size → Telling size c0 R R c0 0
+  tell_start size c0 R l = record { fuel = e; room = omega arith; long = l; many = sym (zero-add _); fault = refl; rest = λ d j. refl }
 
-  -- what the walk leaves: the array, and how many children there are
-  pub record Told (size c0 : ℕ) (R₀ R : List ℕ) (r : ℕ) : Type 0 where
+  -- what the walk leaves: the array, how many children there are, and the one that is at fault
+  pub record Told (size c0 : ℕ) (R₀ R : List A) (r : ℕ) (x : Option ℕ) : Type 0 where
     pub long : length R ≡ size
     pub many : r ≡ length (kids ws e c0 e)
-    pub each : (j : ℕ) → get_or R j 0 ≡ told_in say 0 (kids ws e c0 e) j (get_or R₀ j 0)
+    pub fault : x ≡ faulty_kid ws e c0 e
+    pub each : (d : A) (j : ℕ) → get_or R j d ≡ told_in say 0 (kids ws e c0 e) j (get_or R₀ j d)
 
-  module _ (size c0 : ℕ) (R₀ R : List ℕ) (c pos : ℕ) (t : Telling size c0 R₀ R c pos) (h : c < e) (s : e ≤ size) (r : ℕ) (d : say pos c ≡ r) where
+  module _ (size c0 : ℕ) (R₀ R : List A) (c pos : ℕ) (t : Telling size c0 R₀ R c pos) (h : c < e) (s : e ≤ size) (r : A) (z : say pos c ≡ r) where
     next-at : (f : ℕ) → t.fuel ≡ f → (x : ℕ) → x ≡ end_at ws c → end_good ws c e ≡ true → Telling size c0 R₀ (set R c r) x (pos + 1)
     next-at zero q x w g = absurd (omega (arith, t.room))
     next-at (suc f) q x w g =
@@ -96,14 +100,15 @@ module _ (ws : List ℕ) (say : ℕ → ℕ → ℕ) (e : ℕ) where
           room = omega (arith, t.room);
           long = length-set R c r ∙ t.long;
           many = t.many ∙ ap (λ (l : List ℕ). pos + length l) ks ∙ omega arith;
-          rest = λ j. t.rest j ∙ ap (λ (l : List ℕ). told_in say pos l j (get_or R j 0)) ks
-              ∙ one (kids ws f (end_at ws c) e) R pos c j r (eqb j c) refl (omega (arith, t.long)) (λ b v. told_below f (pos + 1) (end_at ws c) j v (omega arith)) d;
+          fault = t.fault ∙ ap (λ (n : ℕ). faulty_kid ws n c e) q ∙ faulty-good ws f c e h g;
+          rest = λ d j. t.rest d j ∙ ap (λ (l : List ℕ). told_in say pos l j (get_or R j d)) ks
+              ∙ one (kids ws f (end_at ws c) e) R d pos c j r (eqb j c) refl (omega (arith, t.long)) (λ b v. told_below f (pos + 1) (end_at ws c) j v (omega arith)) z;
         })
 
     pub tell-next : (x : ℕ) → x ≡ end_at ws c → (ltb c x && leb x e) ≡ true → Telling size c0 R₀ (set R c r) x (pos + 1)
     tell-next x w g = next-at t.fuel refl x w (subst (λ (y : ℕ). (ltb c y && leb y e) ≡ true) w g)
 
-    last-at : (f : ℕ) → t.fuel ≡ f → end_good ws c e ≡ false → Told size c0 R₀ (set R c r) (pos + 1)
+    last-at : (f : ℕ) → t.fuel ≡ f → end_good ws c e ≡ false → Told size c0 R₀ (set R c r) (pos + 1) (Some c)
     unfolding told_in
     last-at zero q g = absurd (omega (arith, t.room))
     last-at (suc f) q g =
@@ -111,20 +116,22 @@ module _ (ws : List ℕ) (say : ℕ → ℕ → ℕ) (e : ℕ) where
         record {
           long = length-set R c r ∙ t.long;
           many = sym (t.many ∙ ap (λ (l : List ℕ). pos + length l) ks ∙ omega arith);
-          each = λ j. sym (t.rest j ∙ ap (λ (l : List ℕ). told_in say pos l j (get_or R j 0)) ks ∙ one [] R pos c j r (eqb j c) refl (omega (arith, t.long)) (λ b v. refl) d);
+          fault = sym (t.fault ∙ ap (λ (n : ℕ). faulty_kid ws n c e) q ∙ faulty-bad ws f c e h g);
+          each = λ d j. sym (t.rest d j ∙ ap (λ (l : List ℕ). told_in say pos l j (get_or R j d)) ks ∙ one [] R d pos c j r (eqb j c) refl (omega (arith, t.long)) (λ b v. refl) z);
         }
 
-    pub tell-last : (x : ℕ) → x ≡ end_at ws c → (ltb c x && leb x e) ≡ false → Told size c0 R₀ (set R c r) (pos + 1)
+    pub tell-last : (x : ℕ) → x ≡ end_at ws c → (ltb c x && leb x e) ≡ false → Told size c0 R₀ (set R c r) (pos + 1) (Some c)
     tell-last x w g = last-at t.fuel refl (subst (λ (y : ℕ). (ltb c y && leb y e) ≡ false) w g)
 
-  pub tell_done : (size c0 : ℕ) (R₀ R : List ℕ) (c pos : ℕ) → Telling size c0 R₀ R c pos → e ≤ c → Told size c0 R₀ R pos
+  pub tell_done : (size c0 : ℕ) (R₀ R : List A) (c pos : ℕ) → Telling size c0 R₀ R c pos → e ≤ c → Told size c0 R₀ R pos None
   unfolding told_in
   tell_done size c0 R₀ R c pos t h =
       let ks : kids ws t.fuel c e ≡ [] = kids_done ws t.fuel c e h in
       record {
         long = t.long;
         many = sym (t.many ∙ ap (λ (l : List ℕ). pos + length l) ks ∙ add-zero pos);
-        each = λ j. sym (t.rest j ∙ ap (λ (l : List ℕ). told_in say pos l j (get_or R j 0)) ks);
+        fault = sym (t.fault ∙ faulty_done ws t.fuel c e h);
+        each = λ d j. sym (t.rest d j ∙ ap (λ (l : List ℕ). told_in say pos l j (get_or R j d)) ks);
       }
 
 -- A step of the walk by what `Children` gives, whose rows and end are those of the walk.
@@ -132,19 +139,19 @@ pub good-same : (ws : List ℕ) (e c b : ℕ) (rows s : List ℕ) → ws ≡ wor
 good-same ws e c b rows s w q f = ap (λ (x : List ℕ). end_good x c b) (ap words q ∙ sym w) ∙ ap (end_good ws c) f
 
 -- the child that stands next is told r
-pub tell-child : (ws : List ℕ) (say : ℕ → ℕ → ℕ) (e size c0 : ℕ) (R₀ R : List ℕ) {c c' pos r b row : ℕ} {rows s : List ℕ}
+pub tell-child : {A : Type 0} (ws : List ℕ) (say : ℕ → ℕ → A) (e size c0 : ℕ) (R₀ R : List A) {c c' pos b row : ℕ} {r : A} {rows s : List ℕ}
     → Telling ws say e size c0 R₀ R c pos → e ≤ size → ws ≡ words s → rows ≡ s → b ≡ e → ChildAt (words rows) b c row c' → say pos c ≡ r
     → Telling ws say e size c0 R₀ (set R row r) c' (pos + 1)
-tell-child ws say e size c0 R₀ R {c} {c'} {pos} {r} {b} {row} {rows} {s} t l w q f x d =
+tell-child ws say e size c0 R₀ R {c} {c'} {pos} {b} {row} {r} {rows} {s} t l w q f x d =
     let past : c' ≡ end_at ws c = x.behind ∙ ap (λ (m : List ℕ). end_at m c) (ap words q ∙ sym w) in
     let good : end_good ws c e ≡ true = sym (good-same ws e c b rows s w q f) ∙ x.ends in
     rw (x.row_is) (tell-next ws say e size c0 R₀ R c pos t (omega (arith, x.below)) l r d c' past (subst (λ (y : ℕ). (ltb c y && leb y e) ≡ true) (sym past) good))
 
 -- or one whose `end` is at fault, which is the last
-pub tell-fault : (ws : List ℕ) (say : ℕ → ℕ → ℕ) (e size c0 : ℕ) (R₀ R : List ℕ) {c c' pos r b : ℕ} {rows s : List ℕ}
+pub tell-fault : {A : Type 0} (ws : List ℕ) (say : ℕ → ℕ → A) (e size c0 : ℕ) (R₀ R : List A) {c c' pos b : ℕ} {r : A} {rows s : List ℕ}
     → Telling ws say e size c0 R₀ R c pos → e ≤ size → ws ≡ words s → rows ≡ s → b ≡ e → NoChild (words rows) b c c' → c' < e → say pos c ≡ r
-    → Told ws say e size c0 R₀ (set R c' r) (pos + 1)
-tell-fault ws say e size c0 R₀ R {c} {c'} {pos} {r} {b} {rows} {s} t l w q f x h d =
+    → Told ws say e size c0 R₀ (set R c' r) (pos + 1) (Some c')
+tell-fault ws say e size c0 R₀ R {c} {c'} {pos} {b} {r} {rows} {s} t l w q f x h d =
     let low : c < e = omega (arith, x.stays) in
     let bad : end_good ws c e ≡ false = sym (good-same ws e c b rows s w q f) ∙ x.faulty (omega arith) in
     rw (x.stays) (tell-last ws say e size c0 R₀ R c pos t low l r d (end_at ws c) refl bad)
@@ -154,8 +161,14 @@ pub goes-on : (ws : List ℕ) (b c row c' : ℕ) → ChildAt ws b c row c' → c
 goes-on ws b c row c' x = let past = good-past ws c b x.ends in omega (arith, x.behind)
 
 -- a later child's value
-pub then-more : (one more pos c : ℕ) → first_then one more (pos + 1) c ≡ more
+pub then-more : {A : Type 0} (one more : A) (pos c : ℕ) → first_then one more (pos + 1) c ≡ more
 then-more one more pos c = rw (ne_eqb (pos + 1) 0 (λ e. omega arith))
+
+-- who says the same tells the same
+pub told-same : (say said : ℕ → ℕ → ℕ) → ((p c : ℕ) → say p c ≡ said p c) → (pos : ℕ) (K : List ℕ) (j v : ℕ) → told_in say pos K j v ≡ told_in said pos K j v
+unfolding told_in
+told-same say said h pos [] j v = refl
+told-same say said h pos (c ∷ K) j v = rw (h pos c, told-same say said h (pos + 1) K j v)
 
 -- one value for the first child and the same for the later ones is one for all
 both-same : (b : Bool) (d : ℕ) → cond b d d ≡ d
@@ -163,9 +176,20 @@ both-same true d = refl
 both-same false d = refl
 
 pub told-all : (d pos : ℕ) (K : List ℕ) (j v : ℕ) → told_in (first_then d d) pos K j v ≡ told_in (to_all d) pos K j v
+told-all d pos K j v = told-same (first_then d d) (to_all d) (λ p c. both-same (eqb p 0) d) pos K j v
+
+-- what is told is no more than what is said, and what stood there
+told_in-le : (say : ℕ → ℕ → ℕ) (m pos : ℕ) (K : List ℕ) (j v : ℕ) → ((p c : ℕ) → say p c ≤ m) → v ≤ m → told_in say pos K j v ≤ m
 unfolding told_in
-told-all d pos [] j v = refl
-told-all d pos (c ∷ K) j v = rw (both-same (eqb pos 0) d, told-all d (pos + 1) K j v)
+told_in-le say m pos [] j v h l = l
+told_in-le say m pos (c ∷ K) j v h l = cond-le (eqb j c) (say pos c) (told_in say (pos + 1) K j v) m (h pos c) (told_in-le say m (pos + 1) K j v h l)
+
+-- no row has been told a depth above the number of rows before it
+pub deep-le : (ws : List ℕ) (i j : ℕ) → told_by ws deeper 0 i j ≤ i
+unfolding told_by
+deep-le ws zero j = cond-le (eqb j 0) 0 0 0 (omega arith) (omega arith)
+deep-le ws (suc p) j =
+    told_in-le (deeper (told_by ws deeper 0 p p) p) (suc p) 0 (kids_of ws p) j (told_by ws deeper 0 p j) (λ q c. omega (arith, deep-le ws p p)) (omega (arith, deep-le ws p j))
 
 -- The visit of the rows in order, with what each has been told in an array R.
 cond-zero : (b : Bool) → ◌≡◌ {A = ℕ} 0 (cond b 0 0)

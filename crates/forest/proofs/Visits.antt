@@ -5,20 +5,19 @@ use mathlib.Core.Bool.{Bool, true, false, cond, ◌&&◌, not}
 use mathlib.Core.List.{List}
 use Prim.Native.Nat.{ℕ, zero, suc, ◌+◌, ◌%◌, ◌<◌, ◌≤◌}
 use native.Mathlib.Omega.{arith}
-use native.Mathlib.Nat.{zero-add, add-zero}
+use native.Mathlib.Nat.{zero-add}
 use borrow.Author.Tests.{leb-true, lt-ltb}
 use lib.Dec.{ltb, leb}
 use lib.ListN.{get_or, length}
-use Rattle.names.specs.Words.{words, kind_at, attr_at, name_at, end_at}
-use Rattle.grammar.specs.Grammar.{place_of, kind_ok, attr_ok, fits, count_ok, name_ok}
+use Rattle.names.specs.Words.{kind_at, attr_at, name_at, end_at}
+use Rattle.grammar.specs.Grammar.{kind_ok, attr_ok, fits, count_ok, name_ok}
 use Rattle.grammar.specs.Codes.{listed, placed}
-use Rattle.forest.specs.Children.{ChildAt, NoChild}
-use Rattle.forest.specs.Faults.{end_good, kids, kids_of, early_fault, late_fault, fault_of}
+use Rattle.forest.specs.Faults.{kids, kids_of, early_fault, late_fault, fault_of}
 use Rattle.forest.specs.Told.{told_in, told_by, says, marks, top_mark, mark_at, fault_at, lowest_from, lowest_fault}
 use Rattle.forest.specs.declared.Fault.{Fault}
 use Rattle.forest.specs.declared.Fault.TheVariants.{Kind, Attr, End, Place, Name}
 use Rattle.names.proofs.Bools.{and_right}
-use Rattle.forest.proofs.Telling.{told-on, good-same}
+use Rattle.forest.proofs.Telling.{told-on}
 
 none_some : {F : Type 0} {f : F} → Some f ≡ None → ⊥
 none_some h = let z : ◌≡◌ {A = ℕ} 0 1 = cc in omega arith
@@ -161,16 +160,3 @@ module _ (ws : List ℕ) (n names size : ℕ) where
         where
           same-say : marks ws m i ≡ says ws k a e
           same-say = ap (λ (x : ℕ). says ws x (attr_at ws i) (end_at ws i)) (sym qk) ∙ ap (λ (x : ℕ). says ws k x (end_at ws i)) (sym qa) ∙ ap (λ (x : ℕ). says ws k a x) (sym qe)
-
--- what the code stores as a child's mark
-pub said_good : (ws : List ℕ) (k a e pos c place : ℕ) {b row c' : ℕ} {rows s : List ℕ} → ws ≡ words s → rows ≡ s → b ≡ e → ChildAt (words rows) b c row c'
-    → place ≡ place_of k a pos → says ws k a e pos c ≡ place
-said_good ws k a e pos c place {b} {row} {c'} {rows} {s} w q f x d =
-    let g : end_good ws c e ≡ true = sym (good-same ws e c b rows s w q f) ∙ x.ends in
-    rw (g, ← d) (add-zero place)
-
-pub said_bad : (ws : List ℕ) (k a e pos c place : ℕ) {b c' : ℕ} {rows s : List ℕ} → ws ≡ words s → rows ≡ s → b ≡ e → NoChild (words rows) b c c' → c' < e
-    → place ≡ place_of k a pos → says ws k a e pos c ≡ place + 16
-said_bad ws k a e pos c place {b} {c'} {rows} {s} w q f x h d =
-    let g : end_good ws c e ≡ false = sym (good-same ws e c b rows s w q f) ∙ x.faulty (omega (arith, x.stays)) in
-    rw (g, ← d)

@@ -2,6 +2,7 @@
 -- `first_fault` tells the same row. Assumes nothing.
 use Rattle.std.specs.Prelude.{ℕ, zero, suc, ◌+◌, Bool, cond, not, ◌&&◌, List, length, eqb, ltb, Option, Some, None}
 use Rattle.names.specs.Words.{kind_at, attr_at, name_at, end_at}
+use Rattle.names.specs.Answered.{or_else}
 use Rattle.grammar.specs.Grammar.{top_place, place_of}
 use Rattle.forest.specs.Forest.{row_ok}
 use Rattle.forest.specs.Faults.{end_good, kids_of}
@@ -11,17 +12,13 @@ use Rattle.forest.specs.declared.BadRow.{BadRow}
 abbrev pub bad_at : List ℕ → (names place : ℕ) (ends : Bool) (i : ℕ) → Bool
 bad_at ws names place ends i = not (ends && row_ok names place (kind_at ws i) (attr_at ws i) (name_at ws i) (length (kids_of ws i)))
 
-abbrev pub or_later : Option ℕ → Option ℕ → Option ℕ
-or_later (Some row) later = Some row
-or_later None later = later
-
 -- The first bad row from row c on, where c is the child at position pos of a row of kind k, attr a and end e: row c, else one inside it, else one after it. The number before them is fuel.
 unfoldable pub bad_from : List ℕ → (names fuel k a e pos c : ℕ) → Option ℕ
 bad_from ws names zero k a e pos c = None
 bad_from ws names (suc f) k a e pos c =
     cond (ltb c e)
     (cond (bad_at ws names (place_of k a pos) (end_good ws c e) c) (Some c)
-    (or_later (bad_from ws names f (kind_at ws c) (attr_at ws c) (end_at ws c) 0 (c + 1))
+    (or_else (bad_from ws names f (kind_at ws c) (attr_at ws c) (end_at ws c) 0 (c + 1))
     (bad_from ws names f k a e (pos + 1) (end_at ws c))))
     None
 

@@ -1,6 +1,7 @@
 -- What is wrong with a row, over any words, and the first row with which something is wrong. Assumes nothing.
 use Rattle.std.specs.Prelude.{ℕ, zero, suc, ◌+◌, Bool, cond, not, ◌&&◌, List, [], ◌∷◌, length, eqb, ltb, leb, Option, Some, None}
 use Rattle.names.specs.Words.{kind_at, attr_at, name_at, end_at}
+use Rattle.names.specs.Answered.{or_else}
 use Rattle.grammar.specs.Grammar.{top_place, place_of, kind_ok, attr_ok, fits, count_ok, name_ok}
 use Rattle.forest.specs.declared.Fault.{Fault}
 use Rattle.forest.specs.declared.Fault.TheVariants.{Kind, Attr, End, Place, Name}
@@ -14,6 +15,11 @@ end_good ws c e = ltb c (end_at ws c) && leb (end_at ws c) e
 unfoldable pub kids : List ℕ → (fuel c e : ℕ) → List ℕ
 kids ws zero c e = []
 kids ws (suc f) c e = cond (ltb c e) (cond (end_good ws c e) (c ∷ kids ws f (end_at ws c) e) (c ∷ [])) []
+
+-- of these rows the one whose `end` is at fault, which is the last
+unfoldable pub faulty_kid : List ℕ → (fuel c e : ℕ) → Option ℕ
+faulty_kid ws zero c e = None
+faulty_kid ws (suc f) c e = cond (ltb c e) (cond (end_good ws c e) (faulty_kid ws f (end_at ws c) e) (Some c)) None
 
 -- the children of row p
 unfoldable pub kids_of : List ℕ → ℕ → List ℕ
@@ -56,10 +62,6 @@ fault_of ws names place ends i =
 abbrev pub told : Option Fault → (row : ℕ) → Option BadRow
 told None row = None
 told (Some fault) row = Some (record { fault = fault; row = row })
-
-abbrev pub or_else : Option BadRow → Option BadRow → Option BadRow
-or_else None other = other
-or_else (Some bad) other = Some bad
 
 -- The first fault from row c on, where c is the child at position pos of a row of kind k, attr a and end e: row c's, else what is inside it, else what stands after it.
 -- The number before them is fuel.

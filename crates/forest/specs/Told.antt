@@ -1,15 +1,16 @@
 -- What each row is told by its parent, over any words, as a visit of the rows in order finds it: each row tells its children, which it finds by hopping over ends.
 -- A row's parent is the last row before it among whose children it is. Assumes nothing.
-use Rattle.std.specs.Prelude.{◌≡◌, ℕ, zero, suc, ◌+◌, ◌%◌, ◌≤◌, Bool, cond, ◌&&◌, List, [], ◌∷◌, eqb, ltb, leb, length, get_or, Option, None}
+use Rattle.std.specs.Prelude.{◌≡◌, ℕ, zero, suc, ◌+◌, ◌%◌, ◌<◌, ◌≤◌, Bool, cond, ◌&&◌, List, [], ◌∷◌, eqb, ltb, leb, length, get_or, Option, None}
 use Rattle.names.specs.Words.{kind_at, attr_at, end_at}
 use Rattle.grammar.specs.Grammar.{top_place, place_of}
 use Rattle.names.specs.First.{first}
-use Rattle.forest.specs.Faults.{kids_of, end_good, fault_of, told, or_else}
+use Rattle.names.specs.Answered.{or_else}
+use Rattle.forest.specs.Faults.{kids_of, end_good, fault_of, told}
 use Rattle.forest.specs.declared.Fault.{Fault}
 use Rattle.forest.specs.declared.BadRow.{BadRow}
 
 -- what row j is told where the children are listed and the first of them has position pos: say pos c to the child c; v where j is none of them
-unfoldable pub told_in : (say : ℕ → ℕ → ℕ) (pos : ℕ) (kids : List ℕ) (j v : ℕ) → ℕ
+unfoldable pub told_in : {A : Type 0} (say : ℕ → ℕ → A) (pos : ℕ) (kids : List ℕ) (j : ℕ) (v : A) → A
 told_in say pos [] j v = v
 told_in say pos (c ∷ cs) j v = cond (eqb j c) (say pos c) (told_in say (pos + 1) cs j v)
 
@@ -23,7 +24,7 @@ abbrev pub Fresh : List ℕ → (n : ℕ) → Type 0
 Fresh R n = (n ≤ length R) × ((j : ℕ) → get_or R j 0 ≡ 0)
 
 -- one value for the first child, and one for the later ones
-abbrev pub first_then : (one more : ℕ) → ℕ → ℕ → ℕ
+abbrev pub first_then : {A : Type 0} (one more : A) → ℕ → ℕ → A
 first_then one more pos c = cond (eqb pos 0) one more
 
 -- one value for every child
@@ -36,6 +37,10 @@ deeper v p pos c = v + 1
 
 unfoldable pub depth_at : List ℕ → ℕ → ℕ
 depth_at ws i = told_by ws deeper 0 i i
+
+-- each of n rows ends within them
+abbrev pub Within : List ℕ → (n : ℕ) → Type 0
+Within ws n = (i : ℕ) → i < n → end_at ws i ≤ n
 
 -- "first row: depth over 128", of n rows, over any limit
 unfoldable pub first_deep : List ℕ → (most n : ℕ) → Option ℕ

@@ -4,7 +4,7 @@ ghost use Rattle.std.specs.Prelude.{◌≡◌, ◌*◌, ◌≤◌, length, Match
 ghost use Rattle.names.specs.Words.{words};
 ghost use Rattle.forest.specs.Children.{ChildAt, NoChild};
 
-use names::words::cell;
+use names::words::end_at;
 
 // The children that are left: those from row `next` on, below the end `end`.
 #[derive(Clone, Copy)]
@@ -27,7 +27,7 @@ impl Children<'_> {
         if self.end <= row {
             return None;
         }
-        let stop = cell(self.rows, 4 * row + 3);
+        let stop = end_at(self.rows, row);
         if (row < stop) & (stop <= self.end) {
             self.next = stop;
             return Some(row);

@@ -7,12 +7,12 @@ ghost use Rattle.grammar.specs.Codes.{kind_number, place_number};
 ghost use Rattle.forest.specs.Faults.{kids, early_fault, late_fault, first_fault};
 ghost use Rattle.forest.specs.Told.{told_in, Fresh, says, top_mark, lowest_fault};
 
-use crate::child::Children;
-use crate::{BadRow, Fault};
+use crate::told::tell;
+use crate::{BadRow, Fault, RowBytes};
 use grammar::kind::Kind;
 use grammar::place::Place;
 use grammar::{attr_ok, count_ok, fits_in, name_ok, place_of};
-use names::words::cell;
+use names::words::{attr_at, end_at, kind_at, name_at};
 
 // A mark is a byte, since a table has one for each row: this much more where the end is at fault.
 const END_AT_FAULT: u8 = 16;
@@ -27,25 +27,13 @@ fn mark_children(s: &[u8], marks: &mut [u8], kind: Kind, a: usize, c0: usize, e:
     if e <= c0 {
         return 0;
     }
-    let later = place_of(kind, a, 1).number();
-    let mut place = place_of(kind, a, 0).number();
-    let mut children = Children {
-        rows: s,
-        next: c0,
-        end: e,
-    };
-    let mut count: usize = 0;
-    while let Some(row) = children.next() {
-        marks[row] = place;
-        place = later;
-        count += 1;
+    let one = place_of(kind, a, 0).number();
+    let more = place_of(kind, a, 1).number();
+    let told = tell(s, marks, one, more, c0, e);
+    if let Some(row) = told.faulty {
+        marks[row] += END_AT_FAULT;
     }
-    // One whose end is at fault is the last.
-    if children.next < e {
-        marks[children.next] = place + END_AT_FAULT;
-        return count + 1;
-    }
-    count
+    told.count
 }
 
 // The first three faults.
@@ -97,24 +85,28 @@ fn top_mark(end: usize, n: usize) -> u8
     top + END_AT_FAULT
 }
 
-// The lowest row that has a fault. The array has room for n marks and is all 0.
-fn lowest_fault(s: &[u8], n: usize, names: usize, marks: &mut [u8]) -> Option<BadRow>
-    requires n_nonzero { (0 < n) × ((n ≤ 16384) × (16 * n ≤ length s.now)) }
-    requires fresh { Fresh marks.old n }
-    ensures { result ≡ lowest_fault (words s.now) n names }
+// The lowest row that has a fault. The array has room for a mark a row and is all 0.
+fn lowest_fault(rows: &RowBytes<'_>, names: usize, marks: &mut [u8]) -> Option<BadRow>
+    requires some { 0 < rows.now.count }
+    requires fresh { Fresh marks.old rows.now.count }
+    ensures { result ≡ lowest_fault (words rows.now.bytes.now) rows.now.count names }
 {
-    marks[0] = top_mark(cell(s, 3), n);
+    let bytes = rows.bytes;
+    let n = rows.count;
+    marks[0] = top_mark(end_at(bytes, 0), n);
+    // No `find`: its test would have to tell the row's children too, and so change what is asked of the rows behind it: no plainer.
     for row in 0..n {
-        let kind = Kind::from(cell(s, 4 * row));
-        let a = cell(s, 4 * row + 1);
-        let name = cell(s, 4 * row + 2);
-        let e = cell(s, 4 * row + 3);
+        let kind = Kind::from(kind_at(bytes, row));
+        let a = attr_at(bytes, row);
+        let name = name_at(bytes, row);
+        let e = end_at(bytes, row);
         let mark = marks[row];
         let place = Place::from(mark % 16);
-        if let Some(fault) = early_fault(place, (mark < END_AT_FAULT) & (e <= n), kind, a) {
+        let ends = (mark < END_AT_FAULT) & (e <= n);
+        if let Some(fault) = early_fault(place, ends, kind, a) {
             return Some(BadRow { fault, row });
         }
-        let count = mark_children(s, marks, kind, a, row + 1, e);
+        let count = mark_children(bytes, marks, kind, a, row + 1, e);
         if let Some(fault) = late_fault(names, place, kind, a, name, count) {
             return Some(BadRow { fault, row });
         }
@@ -123,25 +115,25 @@ fn lowest_fault(s: &[u8], n: usize, names: usize, marks: &mut [u8]) -> Option<Ba
 }
 
 // The same of a table of at most N rows.
-fn fault_of<const N: usize>(s: &[u8], n: usize, names: usize) -> Option<BadRow>
-    requires size { N ≤ 16384 }
-    requires room { (0 < n) × ((n ≤ N) × (16 * n ≤ length s.now)) }
-    ensures { result ≡ lowest_fault (words s.now) n names }
+fn fault_of<const N: usize>(rows: &RowBytes<'_>, names: usize) -> Option<BadRow>
+    requires size { (N ≤ 16384) × (rows.now.count ≤ N) }
+    requires some { 0 < rows.now.count }
+    ensures { result ≡ lowest_fault (words rows.now.bytes.now) rows.now.count names }
 {
     let mut marks = [0u8; N];
-    lowest_fault(s, n, names, &mut marks)
+    lowest_fault(rows, names, &mut marks)
 }
 
 // The first bad row, with an array that is as large as the table needs. The sizes are those of `depth::first_deep`: one function
 // for both would take what is done as a trait with a const method, and be no plainer.
 #[tactic(auto, using(crate::proofs::Descent::by_lowest))]
-pub fn first_fault(s: &[u8], n: usize, names: usize) -> Option<BadRow>
-    requires { (0 < n) × ((n ≤ 16384) × (16 * n ≤ length s.now)) }
-    ensures { result ≡ first_fault (words s.now) n names }
+pub fn first_fault(rows: &RowBytes<'_>, names: usize) -> Option<BadRow>
+    requires { 0 < rows.now.count }
+    ensures { result ≡ first_fault (words rows.now.bytes.now) rows.now.count names }
 {
-    match n {
-        0..=64 => fault_of::<64>(s, n, names),
-        65..=1024 => fault_of::<1024>(s, n, names),
-        _ => fault_of::<16384>(s, n, names),
+    match rows.count {
+        0..=64 => fault_of::<64>(rows, names),
+        65..=1024 => fault_of::<1024>(rows, names),
+        _ => fault_of::<16384>(rows, names),
     }
 }

@@ -7,8 +7,18 @@ pub mod depth;
 pub mod faults;
 pub mod told;
 
-ghost use Rattle.std.specs.Prelude.{◌≡◌};
+ghost use Rattle.std.specs.Prelude.{◌≡◌, ◌*◌, ◌≤◌, length};
 ghost use Rattle.forest.specs.Faults.{fault_number};
+
+// The first rows of some bytes, and how many they are. That there is one, and that each ends within them, is asked by the functions that
+// need it and not carried here: `first_deep` and rows' `first_made` take a count of 0, and `first_fault` takes rows that end anywhere.
+#[derive(Clone, Copy)]
+pub struct RowBytes<'a> {
+    pub bytes: &'a [u8],
+    pub count: usize,
+    pub ghost few: { count ≤ 16384 },
+    pub ghost whole: { 16 * count ≤ length bytes.now },
+}
 
 // What is wrong with a bad row: a kind that is not in the list, an attr that the kind or its place
 // does not allow, an `end` at fault, a place or a number of children that is not allowed, a name

@@ -24,7 +24,7 @@ enum Part {
 }
 
 impl Part {
-    ghost use Rattle.std.specs.Prelude.{ℕ, cond};
+    ghost use Rattle.std.specs.Prelude.{ℕ};
     ghost use Rattle.form.specs.Form.{Stand.stand, ends, part_number, moved, faulty_unless};
 
     fn only_if(self, good: bool) -> Part
@@ -101,10 +101,17 @@ impl Form {
         let next = self.part.after(&self.front[..self.count], self.rows);
         let goes_on = next != Part::Faulty;
         let is_row = self.part == Part::Rows;
-        self.line += usize::from(goes_on);
-        self.rows += usize::from(goes_on & is_row);
-        self.part = next;
-        self.count = 0;
+        let Form {
+            part,
+            line,
+            rows,
+            count,
+            ..
+        } = self;
+        *line += usize::from(goes_on);
+        *rows += usize::from(goes_on & is_row);
+        *part = next;
+        *count = 0;
     }
 
     // One byte.

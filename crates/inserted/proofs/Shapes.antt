@@ -6,12 +6,17 @@ use Prim.Native.Nat.{ℕ, ◌+◌}
 use native.Mathlib.Omega.{arith}
 use lib.Dec.{eqb}
 use borrow.Author.Tests.{ne_eqb}
+use denote.Enum.Bare.{sameb}
+use Rattle.uses.specs.Uses.{access_number}
+use Rattle.uses.specs.declared.Access.{Access}
+use Rattle.uses.specs.declared.Access.TheVariants.{Get, Set}
+use Rattle.uses.specs.contracts.Access.{the_type}
 use Rattle.grammar.specs.Kinds.{Declarator, This, Super, Ident, Member, Computed, Assign, Arrow, Params, Target}
 use Rattle.forest.specs.Forest.{Rows, Rows.none, Rows.node, size}
 use Rattle.steps.specs.Joining.{join}
 use Rattle.steps.specs.AfterSuper.{assignment}
 use Rattle.steps.specs.TopInsertion.{this_decl, arguments_decl, head_n, past_prop, access_row, accessor}
-use Rattle.inserted.specs.Insertions.{arguments_row, param_if, params_row, body_row, accessor_of}
+use Rattle.inserted.specs.Insertions.{arguments_row, param_if, params_row, body_row, accessor_of, accessor_decl}
 use Rattle.output.proofs.Writing.{size-leaf, size-one}
 use Rattle.steps.proofs.Sizes.{size-join}
 
@@ -104,19 +109,24 @@ pub size_params : (u x p v : ℕ) → size (params_row u x p v) ≡ 1 + (size (p
 unfolding params_row
 size_params u x p v = size-one 18 0 0 _ ∙ ap (λ (n : ℕ). 1 + n) (size-join (param_if (eqb x 0) p) (param_if (eqb u 4) v))
 
+-- the test of the code for one that sets
+pub is-set : (a : Access) → sameb the_type a Set ≡ eqb (access_number a) 4
+is-set Get = refl
+is-set Set = refl
+
 -- its body
 abbrev pub set_row : (x p v : ℕ) → Rows
 set_row x p v = node Assign 0 0 (node Target 0 0 (access_row x p none) (node Ident 1 v none none)) none
 
-pub body_set : {u : ℕ} (x p v : ℕ) → u ≡ 4 → body_row u x p v ≡ set_row x p v
+pub body_set : {a : Access} (x p v : ℕ) → a ≡ Set → body_row (access_number a) x p v ≡ set_row x p v
 unfolding body_row
 body_set x p v h = rw h
 
-pub body_get : {u : ℕ} (x p v : ℕ) → (u ≡ 4 → ⊥) → body_row u x p v ≡ access_row x p none
+pub body_get : {a : Access} (x p v : ℕ) → a ≡ Get → body_row (access_number a) x p v ≡ access_row x p none
 unfolding body_row
-body_get {u} x p v h = rw (ne_eqb u 4 h)
+body_get x p v h = rw h
 
-pub size-set : {u : ℕ} (x p v : ℕ) → u ≡ 4 → size (body_row u x p v) ≡ 3 + size (access_row x p none)
+pub size-set : {a : Access} (x p v : ℕ) → a ≡ Set → size (body_row (access_number a) x p v) ≡ 3 + size (access_row x p none)
 unfolding size
 size-set x p v h = ap size (body_set x p v h) ∙ omega arith
 
@@ -124,6 +134,22 @@ size-set x p v h = ap size (body_set x p v h) ∙ omega arith
 pub size-accessor : (u x p v : ℕ) → size (accessor_of u x p v) ≡ 1 + (size (params_row u x p v) + size (body_row u x p v))
 unfolding accessor_of
 size-accessor u x p v = size-one 16 2 0 _ ∙ ap (λ (n : ℕ). 1 + n) (size-join (params_row u x p v) (body_row u x p v))
+
+-- one that is asked for by any number of a use is that of the number's Access, get where it has none
+pub sets_by : (n : ℕ) → eqb (cond (eqb n 4) 4 3) 4 ≡ eqb n 4
+sets_by n = go (eqb n 4)
+  where
+    go : (y : Bool) → eqb (cond y 4 3) 4 ≡ y
+    go true = refl
+    go false = refl
+
+pub accessor_by : (n x p v : ℕ) → accessor_of (cond (eqb n 4) 4 3) x p v ≡ accessor_of n x p v
+unfolding accessor_of params_row body_row
+accessor_by n x p v = rw (sets_by n)
+
+pub declared_by : (b n x p v : ℕ) → accessor_decl b (cond (eqb n 4) 4 3) x p v ≡ accessor_decl b n x p v
+unfolding accessor_of params_row body_row
+declared_by b n x p v = rw (sets_by n)
 
 -- an accessor by the list of its params' numbers is one by their heads
 heads : (y : Bool) (p : ℕ) (value body : Rows)

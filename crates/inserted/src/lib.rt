@@ -6,11 +6,13 @@ ghost use Rattle.std.specs.Prelude.{◌≡◌, ◌+◌, ◌<◌, ◌^◌};
 ghost use Rattle.forest.specs.Forest.{Rows.none, size};
 ghost use Rattle.steps.specs.AfterSuper.{assignment};
 ghost use Rattle.steps.specs.TopInsertion.{this_decl, arguments_decl, access_row};
+ghost use Rattle.uses.specs.Uses.{access_number};
 ghost use Rattle.inserted.specs.Insertions.{param_if, params_row, body_row, accessor_of, accessor_decl};
 ghost use Rattle.output.specs.Held.{Puts};
 
 use grammar::kind::Kind;
 use output::writer::Writer;
+use uses::Access;
 
 // `captured = this`, where `b` is the number of the binding.
 pub fn assignment(w: &mut Writer<'_>, b: u32)
@@ -82,67 +84,73 @@ fn param_if(w: &mut Writer<'_>, yes: bool, b: u32)
     }
 }
 
-// An accessor's Params.
-fn params_row(w: &mut Writer<'_>, usage: u32, property: u32, prop: u32, value: u32)
-    requires { w.old.at + size (params_row usage property prop value) < 2 ^ 32 }
-    ensures same_reference { w.new.rows.ghost_name ≡ w.old.rows.ghost_name }
-    ensures rows { Puts w.old (params_row usage property prop value) w.new }
-{
-    let row = w.at;
-    w.append(Kind::Params as u32, 0, 0, 0);
-    param_if(w, property == 0, prop);
-    param_if(w, usage == 4, value);
-    w.close(row);
+// An accessor: what it gives access to, the number of its property's name or 0, and the numbers of its params, each looked at
+// where there is such a param.
+#[derive(Clone, Copy)]
+pub struct Accessor {
+    pub access: Access,
+    pub property: u32,
+    pub prop: u32,
+    pub value: u32,
 }
 
-// What an accessor gives or sets.
-fn body_row(w: &mut Writer<'_>, usage: u32, property: u32, prop: u32, value: u32)
-    requires { w.old.at + size (body_row usage property prop value) < 2 ^ 32 }
-    ensures same_reference { w.new.rows.ghost_name ≡ w.old.rows.ghost_name }
-    ensures rows { Puts w.old (body_row usage property prop value) w.new }
-{
-    if usage == 4 {
+impl Accessor {
+    // Its Params.
+    fn params_row(self, w: &mut Writer<'_>)
+        requires { w.old.at + size (params_row (access_number self.access) self.property self.prop self.value) < 2 ^ 32 }
+        ensures same_reference { w.new.rows.ghost_name ≡ w.old.rows.ghost_name }
+        ensures rows { Puts w.old (params_row (access_number self.access) self.property self.prop self.value) w.new }
+    {
         let row = w.at;
-        w.append(Kind::Assign as u32, 0, 0, 0);
-        let target = w.at;
-        w.append(Kind::Target as u32, 0, 0, 0);
-        access_row(w, property, prop);
-        w.close(target);
-        w.leaf(Kind::Ident as u32, 1, value);
-        return w.close(row);
+        w.append(Kind::Params as u32, 0, 0, 0);
+        param_if(w, self.property == 0, self.prop);
+        param_if(w, self.access == Access::Set, self.value);
+        w.close(row);
     }
-    access_row(w, property, prop);
-}
 
-// The Arrow of an accessor: `usage` is 3 get or 4 set, `property` the number of the property's name
-// or 0, `prop` and `value` the numbers of its params, each looked at where there is such a param.
-pub fn accessor(w: &mut Writer<'_>, usage: u32, property: u32, prop: u32, value: u32)
-    requires { w.old.at + size (accessor_of usage property prop value) < 2 ^ 32 }
-    ensures same_reference { w.new.rows.ghost_name ≡ w.old.rows.ghost_name }
-    ensures rows { Puts w.old (accessor_of usage property prop value) w.new }
-{
-    let row = w.at;
-    w.append(Kind::Arrow as u32, 2, 0, 0);
-    params_row(w, usage, property, prop, value);
-    body_row(w, usage, property, prop, value);
-    w.close(row);
-}
+    // What it gives or sets.
+    fn body_row(self, w: &mut Writer<'_>)
+        requires { w.old.at + size (body_row (access_number self.access) self.property self.prop self.value) < 2 ^ 32 }
+        ensures same_reference { w.new.rows.ghost_name ≡ w.old.rows.ghost_name }
+        ensures rows { Puts w.old (body_row (access_number self.access) self.property self.prop self.value) w.new }
+    {
+        match self.access {
+            Access::Get => access_row(w, self.property, self.prop),
+            Access::Set => {
+                let row = w.at;
+                w.append(Kind::Assign as u32, 0, 0, 0);
+                let target = w.at;
+                w.append(Kind::Target as u32, 0, 0, 0);
+                access_row(w, self.property, self.prop);
+                w.close(target);
+                w.leaf(Kind::Ident as u32, 1, self.value);
+                w.close(row);
+            }
+        }
+    }
 
-// The Declarator of accessor `b`.
-pub fn accessor_declarator(
-    w: &mut Writer<'_>,
-    b: u32,
-    usage: u32,
-    property: u32,
-    prop: u32,
-    value: u32,
-)
-    requires { w.old.at + size (accessor_decl b usage property prop value) < 2 ^ 32 }
-    ensures same_reference { w.new.rows.ghost_name ≡ w.old.rows.ghost_name }
-    ensures rows { Puts w.old (accessor_decl b usage property prop value) w.new }
-{
-    let row = w.at;
-    w.append(Kind::Declarator as u32, 1, b, 0);
-    accessor(w, usage, property, prop, value);
-    w.close(row);
+    // Its Arrow.
+    pub fn arrow(self, w: &mut Writer<'_>)
+        requires { w.old.at + size (accessor_of (access_number self.access) self.property self.prop self.value) < 2 ^ 32 }
+        ensures same_reference { w.new.rows.ghost_name ≡ w.old.rows.ghost_name }
+        ensures rows { Puts w.old (accessor_of (access_number self.access) self.property self.prop self.value) w.new }
+    {
+        let row = w.at;
+        w.append(Kind::Arrow as u32, 2, 0, 0);
+        self.params_row(w);
+        self.body_row(w);
+        w.close(row);
+    }
+
+    // Its Declarator, where `b` is the number of its binding.
+    pub fn declarator(self, w: &mut Writer<'_>, b: u32)
+        requires { w.old.at + size (accessor_decl b (access_number self.access) self.property self.prop self.value) < 2 ^ 32 }
+        ensures same_reference { w.new.rows.ghost_name ≡ w.old.rows.ghost_name }
+        ensures rows { Puts w.old (accessor_decl b (access_number self.access) self.property self.prop self.value) w.new }
+    {
+        let row = w.at;
+        w.append(Kind::Declarator as u32, 1, b, 0);
+        self.arrow(w);
+        w.close(row);
+    }
 }

@@ -12,8 +12,9 @@ ghost use Rattle.insertion.specs.Declarations.{accessors_in, decls_in, param_aft
 use bindings::frame::Frame;
 use bindings::view::Bindings;
 use grammar::kind::Kind;
+use inserted::Accessor;
 use output::writer::Writer;
-use uses::Use;
+use uses::Access;
 
 // The parameter behind `p` in its chain where `p` is taken, else `p`; 0 is none.
 fn after(bindings: Bindings<'_>, p: u32, taken: bool) -> u32
@@ -42,9 +43,16 @@ fn accessor_declarators(frame: Frame<'_>, w: &mut Writer<'_>)
     // A loop by hand: two chains of numbers side by side, no counted index, for which an iterator would be no plainer.
     while b != 0 {
         let record = all.record(b);
+        let access = Access::from(record.usage as usize);
         let v = after(all, p, record.property == 0);
-        inserted::accessor_declarator(w, b, record.usage, record.property, p, v);
-        p = after(all, v, record.usage == Use::Set.number());
+        let accessor = Accessor {
+            access,
+            property: record.property,
+            prop: p,
+            value: v,
+        };
+        accessor.declarator(w, b);
+        p = after(all, v, access == Access::Set);
         b = all.next(b);
     }
 }
@@ -58,6 +66,8 @@ fn is_bare(frame: Frame<'_>) -> bool
 
 // The Declarators of a frame's Var: `arguments`, guarded at Program; the accessors; `this`, with no
 // initialiser where `late`.
+// Two flags, and no enum of the frame's kind: specs' `top_rows` is of every kind and slot, of a Program in the slot of a late body too, so that an
+// enum would have four cases, which are these flags.
 fn declarators(frame: Frame<'_>, guarded: bool, late: bool, w: &mut Writer<'_>)
     requires { w.old.at + size (decls_in frame guarded late) < 2 ^ 32 }
     ensures same_reference { w.new.rows.ghost_name ≡ w.old.rows.ghost_name }

@@ -6,12 +6,13 @@
 
 #![tactic(auto)]
 
-ghost use Rattle.std.specs.Prelude.{◌≡◌, ℕ, ◌+◌, ◌≤◌, length, take, drop, is_some};
+ghost use Rattle.std.specs.Prelude.{◌≡◌, ◌+◌, ◌≤◌, length, take, drop, is_some};
 ghost use Rattle.lookup.specs.Parts.{spells, spelling_of, number_of, PartIn, PartOf};
 
-use names::words::cell;
+use names::words::pair_at;
 
-// A part of a text.
+// A part of a text, by its start and its length and not as a slice: the C entry tells these two numbers, since an exported
+// function can't hand back a slice.
 #[derive(Clone, Copy)]
 pub struct Part {
     pub start: usize,
@@ -39,9 +40,7 @@ fn part_in(pairs: &[u8], text: &[u8], number: usize) -> Option<Part>
     if pairs.len() / 8 < number {
         return None;
     }
-    let at = 2 * (number - 1);
-    let start = cell(pairs, at);
-    let bytes = cell(pairs, at + 1);
+    let (start, bytes) = pair_at(pairs, number);
     if text.len() < start + bytes {
         return None;
     }
@@ -49,6 +48,7 @@ fn part_in(pairs: &[u8], text: &[u8], number: usize) -> Option<Part>
 }
 
 // The part that an Ident of that attr and number names, if it has a spelling; which text it is a part of goes by the attr.
+// Here and below the four slices stand apart, as the C entry takes them: a struct of them would be taken apart in this match.
 pub fn part_of(
     attr: u32,
     number: u32,
@@ -66,7 +66,8 @@ pub fn part_of(
     }
 }
 
-// The spelling of an Ident of that attr and number; empty where it has none.
+// The spelling of an Ident of that attr and number; where it has none no Option but an empty part, as the request says, which
+// has the check beside it (`unspelled`) for that.
 pub fn spelling<'a>(
     attr: u32,
     number: u32,
@@ -87,7 +88,8 @@ pub fn spelling<'a>(
     }
 }
 
-// The request's number of a part that an Ident names, as the C entry tells it: 18 where there is none, else 0.
+// The request's number of a part that an Ident names, as the C entry tells it: 18 where there is none, else 0. The lookup has
+// no other refusal: an enum of this one would be made here only to be turned into its number.
 pub fn refusal(part: Option<Part>) -> u32
     ensures { result ≡ number_of (is_some part) }
 {

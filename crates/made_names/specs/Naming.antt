@@ -8,6 +8,7 @@ use Rattle.base_text.specs.declared.Refusal.{Refusal}
 use Rattle.base_text.specs.declared.Refusal.TheVariants.{NoRoom}
 use Rattle.candidates.specs.MadeNames.{made_names}
 use Rattle.candidates.specs.Faults.{first_fault}
+use Rattle.candidates.specs.declared.Checked.{Checked}
 use Rattle.made_names.specs.declared.Made.{Made}
 
 -- so many pairs and bytes
@@ -38,3 +39,9 @@ pub record Makes (answer expected : Result Made Refusal) (made : List (List ℕ)
   pub right : answer ≡ expected
   pub pairs_left : pairs' ≡ take (8 * pair_count answer) (bytes_of (pairs_from 0 made)) ++ drop (8 * pair_count answer) pairs
   pub text_left : text' ≡ take (byte_count answer) (joined made) ++ drop (byte_count answer) text
+
+-- The same of a script that 1, 4, 11 and 10 leave.
+abbrev pub MakesAll : (checked : Checked) (answer : Result Made Refusal) (pairs pairs' text text' : List ℕ) → Type 0
+MakesAll checked answer pairs pairs' text text' =
+    let made = made_names checked.script.bindings.now checked.script.names.now checked.script.text.now in
+    Makes answer (fitted (length pairs) (length text) made) made pairs pairs' text text'

@@ -37,5 +37,5 @@ pub fn make_names(
 {
     base_text::front(script)?;
     candidates::first_fault(script)?;
-    sizes::over(256, Checked { script }, out_pairs, out_text)
+    sizes::over(Checked { script }, out_pairs, out_text)
 }

@@ -1,8 +1,9 @@
 pub mod Bools
+pub mod OrElse
 pub mod Zeros
 pub mod Cells
 pub mod Storing
 pub mod Seeking
-pub mod Reading
+pub mod Texts
 pub mod GoodNames
 pub mod Laying

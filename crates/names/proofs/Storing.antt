@@ -1,26 +1,22 @@
 -- Words stored as bytes, one after the other, and read back. Assumes nothing.
 use mathlib.Core.Path.{◌≡◌, refl, sym, ap, ◌∙◌}
 use mathlib.Core.List.{List, [], ◌∷◌, ◌++◌, append_assoc}
-use Prim.Native.Nat.{ℕ, suc, ◌+◌, ◌*◌, ◌/◌, ◌%◌}
+use Prim.Native.Nat.{ℕ, suc, ◌+◌, ◌-◌, ◌*◌, ◌/◌, ◌%◌, ◌≤◌, ◌<◌}
 use native.Mathlib.Omega.{arith}
-use lib.ListN.{length, set, take, length-append}
-use lib.Seq.{sets, take_at}
+use lib.ListN.{length, set, take, drop, length-append}
+use lib.Seq.{sets, sets-eq, take_at, drop-drop}
+use borrow.Rule.Slice.PartMut.{put_mid}
 use Rattle.names.specs.Words.{words}
 use Rattle.names.specs.Bytes.{le32, bytes_of}
 
--- four stores are one run
-four : (o : List ℕ) (b v0 v1 v2 v3 : ℕ) → set (set (set (set o b v0) (b + 1) v1) (b + 2) v2) (b + 3) v3 ≡ sets o b (v0 ∷ v1 ∷ v2 ∷ v3 ∷ [])
-four o b v0 v1 v2 v3 =
-    let e1 : b + 1 ≡ suc b = omega arith in
-    let e2 : b + 2 ≡ suc (suc b) = omega arith in
-    let e3 : b + 3 ≡ suc (suc (suc b)) = omega arith in
-    rw (e1, e2, e3)
-
--- and those of a word
-pub four-le : (o : List ℕ) (b x : ℕ)
-    → set (set (set (set o b (x % 256)) (b + 1) (x / 256 % 256)) (b + 2) (x / 65536 % 256)) (b + 3) (x / 16777216) ≡ sets o b (le32 x)
+-- a word's bytes in the place of four bytes are four stores
+pub four-le : (o ys : List ℕ) (b x : ℕ) → b + 4 ≤ length o → x < 4294967296
+    → ys ≡ x % 256 ∷ x / 256 % 256 ∷ x / 65536 % 256 ∷ x / 16777216 % 256 ∷ [] → put_mid b (b + 4 - b) o ys ≡ sets o b (le32 x)
 unfolding le32
-four-le o b x = four o b _ _ _ _
+four-le o ys b x h l q =
+    let e : b + 4 - b ≡ 4 = omega arith in
+    let top : x / 16777216 % 256 ≡ x / 16777216 = omega arith in
+    rw (e, q, top, drop-drop 4 b o) (sym (sets-eq (le32 x) o b h ∙ append_assoc (take b o) (le32 x) (drop (b + 4) o)))
 
 pub length-le32 : (x : ℕ) → length (le32 x) ≡ 4
 unfolding le32

@@ -1,5 +1,10 @@
--- Answers of tests and of entries: an acceptance, or a refusal with its number and place. Assumes nothing.
+-- Answers of tests and of entries: what is found, if anything; an acceptance, or a refusal with its number and place. Assumes nothing.
 use Rattle.std.specs.Prelude.{ℕ, Option, Some, None, Result, Ok, Err}
+
+-- what a test found, or else what another one did
+abbrev pub or_else : {A : Type 0} → Option A → Option A → Option A
+or_else None other = other
+or_else (Some found) other = Some found
 
 -- the refusal of what a test found, or what is answered where it found nothing
 abbrev pub unless_found : {A B E : Type 0} → (A → E) → Option A → Result B E → Result B E

@@ -10,7 +10,7 @@ ghost use Rattle.std.specs.Prelude.{◌≡◌, ℕ, ◌+◌, ◌*◌, ◌/◌, �
 ghost use Rattle.names.specs.Names.{names_fit, bad_name, first_bad_name};
 
 use crate::utf8::is_utf8;
-use crate::words::cell;
+use crate::words::pair_at;
 
 // Whether names and text of these many bytes are whole pairs, and not too many.
 pub fn names_fit(names: usize, text: usize) -> bool
@@ -25,9 +25,7 @@ fn bad_name(names: &[u8], text: &[u8], k: usize) -> bool
     requires { (0 < k) × ((8 * k ≤ length names.now) × (length names.now ≤ 32768)) }
     ensures { result ≡ bad_name names.now text.now k }
 {
-    let pair = 2 * (k - 1);
-    let start = cell(names, pair);
-    let n = cell(names, pair + 1);
+    let (start, n) = pair_at(names, k);
     let end = start + n;
     if text.len() < end {
         return true;

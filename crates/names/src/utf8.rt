@@ -2,6 +2,8 @@
 ghost use Rattle.std.specs.Prelude.{◌≡◌, ℕ, ◌<◌, ◌≤◌, length, get_or};
 ghost use Rattle.names.specs.Utf8.{seq_of, seq_at, utf8};
 
+use std::str;
+
 // The length of the well-formed sequence that these bytes start with, 0 where they start with none.
 fn seq(a: u8, b: u8, c: u8, d: u8) -> usize
     ensures { (result ≡ seq_of a b c d) × (result ≤ 4) }
@@ -35,13 +37,11 @@ fn seq(a: u8, b: u8, c: u8, d: u8) -> usize
 pub fn byte(s: &[u8], i: usize) -> u8
     ensures { result ≡ get_or s.now i 0 }
 {
-    if i < s.len() {
-        return s[i];
-    }
-    0
+    s.get(i).copied().unwrap_or(0)
 }
 
-// The length of the well-formed sequence at i, 0 where none starts there.
+// The length of the well-formed sequence at i, 0 where none starts there. A number, as the definition has it, and no Option: base
+// text, which alone asks, tells a width of any bytes (`first_width`), and would turn None into this 0 again.
 pub fn seq_at(s: &[u8], i: usize) -> usize
     requires { i < length s.now }
     ensures { (result ≡ seq_at s.now i) × (result ≤ 4) }
@@ -53,18 +53,9 @@ pub fn seq_at(s: &[u8], i: usize) -> usize
     seq(a, byte(s, i + 1), byte(s, i + 2), byte(s, i + 3))
 }
 
+// Whether these bytes are well-formed sequences, one after the other.
 pub fn is_utf8(s: &[u8]) -> bool
     ensures { result ≡ utf8 s.now }
 {
-    let mut i: usize = 0;
-    // A loop by hand: a sequence has one to four bytes, so that no range or `chunks` has these steps, and the bytes left in place of i
-    // would be no plainer.
-    while i < s.len() {
-        let w = seq_at(s, i);
-        if w == 0 {
-            return false;
-        }
-        i += w;
-    }
-    true
+    str::from_utf8(s).is_ok()
 }

@@ -1,19 +1,19 @@
 -- An entry looked for along its bucket. Assumes nothing.
 use Prim.Native.Nat.{ℕ, ◌+◌, ◌%◌, ◌≤◌, ◌<◌}
 use mathlib.Core.Path.{◌≡◌, refl, ap, sym, subst, ◌∙◌}
-use mathlib.Core.Bool.{Bool, true, false, cond, true≢false}
+use mathlib.Core.Bool.{Bool, true, false, true≢false}
 use mathlib.Core.List.{List}
 use native.Mathlib.Omega.{arith}
 use lib.ListN.{length, get_or}
 use Rattle.names.specs.Words.{names_in}
 use Rattle.names.specs.Names.{same_bytes}
 use Rattle.spelling.specs.Hash.{hash_of}
-use Rattle.spelling.specs.Spelling.{GivenNames}
 use Rattle.spelling.proofs.Hashing.{same-list}
 use Rattle.buckets.specs.Search.{first_where}
-use Rattle.buckets.proofs.Finding.{Finding, finding_start, finding_done, finding_low, finding_next, finding_less}
+use Rattle.buckets.specs.Along.{members, Each, Last}
+use Rattle.buckets.proofs.Walking.{each_member, last_member}
 use Rattle.base_text.specs.Bindings.{records_in}
-use Rattle.base_text.proofs.Checking.{fronted, good_names}
+use Rattle.base_text.proofs.Checking.{fronted}
 use Rattle.candidates.specs.Candidates.{candidate, behind}
 use Rattle.candidates.specs.Faults.{Sound}
 use Rattle.candidates.specs.declared.Checked.{Checked}
@@ -21,10 +21,6 @@ use Rattle.numbers.specs.Entries.{entry_at, entries}
 use Rattle.numbers.specs.Tables.{is_text, in_bucket, Seeking, Stored}
 use Rattle.numbers.proofs.Searching.{is_found, not_found, seeking_next, seeking_done}
 use Rattle.numbers.proofs.Entering.{entries-long, entry_in, in-bucket}
-
--- what 4 leaves of the names
-pub given : {bindings names text : List ℕ} → Sound bindings names text → GivenNames names text
-given {bindings} {names} {text} s k p l = good_names names text (fronted bindings names text s.front).named k p l
 
 -- a spelling is looked for in its bucket
 outside : (x : List ℕ) (buckets h : ℕ) → h ≡ hash_of x % buckets → (r : List ℕ) → in_bucket buckets h r ≡ false → is_text x r ≡ false
@@ -38,29 +34,19 @@ module _ {bindings names text lasts befores numbers : List ℕ} {count : ℕ} (S
   abbrev xs : List (List ℕ)
   xs = entries bindings names text numbers count
 
-  -- the loop, at entry e
-  abbrev pub Along : (h found e : ℕ) → Type 0
-  Along h found e = (h ≡ hash_of x % length lasts) × Finding (is_text x) (in_bucket (length lasts) h) xs e found
+  module _ (h : ℕ) (at : h ≡ hash_of x % length lasts) (l : h < length lasts) where
+    -- the entries of a bucket are among those that are taken
+    pub in_bucket_each : (P : ℕ → Type 0) → ((e : ℕ) → 0 < e → e ≤ count → get_or befores e 0 < e → P e) → Each P (members lasts befores h)
+    in_bucket_each P f = each_member S.found h l lasts befores refl (λ e. refl) P (λ e n m k. f e n (omega (arith, entries-long bindings names text numbers count)) k)
 
-  pub along_start : (h : ℕ) → h ≡ hash_of x % length lasts → h < length lasts → (e : ℕ) → e ≡ get_or lasts h 0 → Along h 0 e
-  along_start h at l e q = (at, finding_start S.found (is_text x) h l e q)
-
-  module _ {h found e : ℕ} (A : Along h found e) where
-    pub along-done : e ≡ 0 → (found ≡ first_where (is_text x) 1 xs) × (found ≤ count)
-    along-done z = (finding_done A.1 (outside x (length lasts) h A.0) z, omega (arith, A.1.found_low, entries-long bindings names text numbers count))
-
-    pub along-low : e ≤ count
-    along-low = omega (arith, finding_low A.1, entries-long bindings names text numbers count)
-
-    module _ (some : e ≡ 0 → ⊥) (t : Bool) (tq : t ≡ same_bytes (entry_at bindings names text numbers e) x) (found₁ : ℕ) (fq : found₁ ≡ cond t e found) (e₁ : ℕ) (eq : e₁ ≡ get_or befores e 0) where
-      pub along-next : Along h found₁ e₁
-      along-next =
-          let l = along-low in
-          let i = entry_in bindings names text numbers count e (omega arith) l in
-          (A.0, finding_next S.found h A.1 some e₁ eq (outside x (length lasts) h A.0) t (tq ∙ ap (λ (s : List ℕ). same_bytes s x) (sym i)) found₁ fq)
-
-      pub along-less : e₁ < e
-      along-less = finding_less S.found h A.1 some e₁ eq
+    -- the first of them that is x is the first of all
+    pub first_found : (Answers : ℕ → Bool → Type 0) → ((e : ℕ) (t : Bool) → 0 < e → e ≤ count → Answers e t → t ≡ same_bytes (entry_at bindings names text numbers e) x)
+        → (r : ℕ) → Last Answers (members lasts befores h) 0 r → (r ≡ first_where (is_text x) 1 xs) × (r ≤ count)
+    first_found Answers f r q =
+        let k = last_member S.found h l lasts befores refl (λ e. refl) (is_text x) (outside x (length lasts) h at) Answers
+        (λ e t n m a. let i : e ≤ count = omega (arith, entries-long bindings names text numbers count) in
+        f e t n i a ∙ ap (λ (s : List ℕ). same_bytes s x) (sym (entry_in bindings names text numbers count e n i))) r q in
+        (k.0, omega (arith, k.1, entries-long bindings names text numbers count))
 
 -- there are few entries
 pub few-entries : {bindings names text : List ℕ} → Sound bindings names text → (count : ℕ) → count ≤ names_in names + records_in bindings → count ≤ 69631

@@ -6,8 +6,9 @@ use Rattle.spelling.specs.Hash.{hash_of}
 use Rattle.base_text.specs.Bindings.{records_in}
 use Rattle.base_text.specs.Refusals.{base_text}
 use Rattle.candidates.specs.declared.Checked.{Checked}
-use Rattle.numbers.specs.Entries.{entries}
-use Rattle.numbers.specs.Tables.{Stored, Numbering, Empty}
+use Rattle.candidates.specs.MadeNames.{names_of}
+use Rattle.numbers.specs.Entries.{entry_at, entries}
+use Rattle.numbers.specs.Tables.{Stored, Numbering, Empty, Chosen, Named, Numbered}
 use Rattle.numbers.specs.declared.Tables.{Tables}
 
 -- the base text of binding b, and the first entries, so many
@@ -17,7 +18,14 @@ base c b = base_text b c.script.bindings.now c.script.names.now c.script.text.no
 abbrev pub known : Checked → (numbers : List ℕ) (count : ℕ) → List (List ℕ)
 known c numbers count = entries c.script.bindings.now c.script.names.now c.script.text.now numbers count
 
--- how many names and bindings the script has
+-- entry e, from 1
+abbrev pub entry : Checked → (numbers : List ℕ) (e : ℕ) → List ℕ
+entry c numbers e = entry_at c.script.bindings.now c.script.names.now c.script.text.now numbers e
+
+-- the names of the script, and how many names and bindings it has
+abbrev pub own_names : Tables → List (List ℕ)
+own_names t = names_of t.checked.script.names.now t.checked.script.text.now
+
 abbrev pub named : Tables → ℕ
 named t = names_in t.checked.script.names.now
 
@@ -53,13 +61,26 @@ put t x e = record {
 abbrev pub reaching : Tables → List ℕ → Tables
 reaching t r = record { lasts = t.lasts; befores = t.befores; reached = at_last t.reached r; numbers = t.numbers; checked = t.checked }
 
--- the tables are right for the first `count` entries, or all but how far numbers are taken
+-- the tables but for `reached` are right for the first `count` entries
 abbrev pub Held : Tables → (count : ℕ) → Type 0
 Held t count = Stored t.checked.script.bindings.now t.checked.script.names.now t.checked.script.text.now t.lasts.now t.befores.now t.numbers.now count
 
+-- all four are right for them
 abbrev pub Right : Tables → (count : ℕ) → Type 0
 Right t count = Numbering t.checked.script.bindings.now t.checked.script.names.now t.checked.script.text.now t.lasts.now t.befores.now t.reached.now t.numbers.now count
 
 -- they have no entry, with room for all
 abbrev pub Blank : Tables → Type 0
 Blank t = Empty t.checked.script.bindings.now t.checked.script.names.now t.lasts.now t.befores.now t.reached.now t.numbers.now
+
+-- n is the number behind binding b's name, after `count` entries, and `reached` is right once that name is an entry
+abbrev pub Chooses : Tables → (count b n : ℕ) (reached : List ℕ) → Type 0
+Chooses t count b n reached = Chosen t.checked.script.bindings.now t.checked.script.names.now t.checked.script.text.now t.numbers.now count b n reached
+
+-- that number is stored, and the name has so many bytes
+abbrev pub NumbersOne : (t t' : Tables) (count b bytes : ℕ) → Type 0
+NumbersOne t t' count b bytes = Named t.checked.script.bindings.now t.checked.script.names.now t.checked.script.text.now count b bytes t.numbers.now t'.numbers.now
+
+-- the numbers behind all names are stored, which have so many bytes together
+abbrev pub NumbersAll : (t t' : Tables) (bytes : ℕ) → Type 0
+NumbersAll t t' bytes = Numbered t.checked.script.bindings.now t.checked.script.names.now t.checked.script.text.now bytes t'.numbers.now

@@ -15,15 +15,14 @@ ghost use Rattle.spelling.specs.Hash.{hash_of};
 ghost use Rattle.buckets.specs.Search.{first_where};
 ghost use Rattle.base_text.specs.Bindings.{records_in};
 ghost use Rattle.candidates.specs.Candidates.{candidate, behind};
-ghost use Rattle.candidates.specs.MadeNames.{names_of};
-ghost use Rattle.numbers.specs.Entries.{entry_at};
-ghost use Rattle.numbers.specs.Tables.{is_text, Seeking, Stored, Found, Chosen, Named, Empty, Numbered};
+ghost use Rattle.numbers.specs.Tables.{is_text, Seeking, Stored, Found};
 
-use buckets::pick;
+use buckets::{file, first_in};
 use candidates::{Checked, put_candidate};
-use spelling::{Names, hash_bytes, same_bytes};
+use spelling::{hash_bytes, same_bytes};
 
-// The most bytes of a made name are 281; a name is written into an array of this size.
+// The most bytes of a made name are 281; a name is written into an array of this size. A function that handed back what
+// `put_candidate` has written would ask again what that asks, for a line less at each of its three calls: no plainer.
 const NAME_ROOM: usize = 288;
 
 // The bucket of x, of so many.
@@ -45,45 +44,35 @@ struct Taken<'a> {
     ghost stored: { Stored checked.script.bindings.now checked.script.names.now checked.script.text.now lasts.now befores.now numbers.now count },
 }
 
+// A binding's number stays a bare `b`, here and in `Tables`: a type for it would hold the script too, for its bound, and each
+// contract would ask that this is the script of the tables: no plainer.
 impl Taken<'_> {
-    ghost use Rattle.numbers.specs.Lent.{base, known};
+    ghost use Rattle.numbers.specs.Lent.{base, known, entry};
 
     // Whether entry e is x.
     fn is_entry(self, x: &[u8], e: usize) -> bool
         requires { (0 < e) × (e ≤ self.count) }
-        ensures { result ≡ same_bytes (entry_at self.entry.checked.script.bindings.now self.entry.checked.script.names.now self.entry.checked.script.text.now self.entry.numbers.now e) x.now }
+        ensures { result ≡ same_bytes (entry self.entry.checked self.entry.numbers.now e) x.now }
     {
-        let script = self.checked.script;
-        let named = script.names.len() / 8;
+        let checked = self.checked;
+        let named = checked.named();
         if e <= named {
-            let names = Names {
-                pairs: script.names,
-                text: script.text,
-            };
-            return names.is_spelled(e, x);
+            return checked.names().is_spelled(e, x);
         }
         let mut name = [0; NAME_ROOM];
-        let end = put_candidate(&mut name, 0, (e - named) as u32, self.numbers[e], script);
+        let b = (e - named) as u32;
+        let end = put_candidate(&mut name, 0, b, self.numbers[e], checked.script);
         same_bytes(&name[..end], x)
     }
 
-    // The first entry that is x, 0 where there is none, as in the tables and in `pick`: an Option would only turn that 0 back and
-    // forth. The entries of its bucket are looked at one by one.
+    // The first entry that is x, 0 where there is none, as in the tables: an Option would only turn that 0 back and forth.
     fn find(&self, x: &[u8]) -> usize
         ensures { (result ≡ first_where (is_text x.now) 1 (known self.now.checked self.now.numbers.now self.now.count)) × (result ≤ self.now.count) }
     {
         // A copy, which is read once and not at each entry.
         let taken = *self;
         let h = bucket(x, taken.lasts.len());
-        let mut found: usize = 0;
-        let mut e = taken.lasts[h] as usize;
-        // A loop by hand: a chain of numbers, no counted index, for which an iterator would be no plainer.
-        while e != 0 {
-            let it = taken.is_entry(x, e);
-            found = pick(it, e, found);
-            e = taken.befores[e] as usize;
-        }
-        found
+        first_in(taken.lasts, taken.befores, h, |e| taken.is_entry(x, e))
     }
 
     // The same of the made name of binding b with the number n. Inlined into both of its callers, as it was measured.
@@ -116,16 +105,16 @@ impl Taken<'_> {
 // The four tables by which the numbers are found, as they are lent. By bucket: its last entry. By entry: the one before it in its
 // bucket, how far the numbers behind it are known to be taken, and the number that stands behind a made name.
 #[derive(Drop)]
-struct Tables<'a> {
-    lasts: &'a mut [u32],
-    befores: &'a mut [u32],
-    reached: &'a mut [u32],
-    numbers: &'a mut [u32],
-    checked: Checked<'a>,
+pub struct Tables<'a> {
+    pub lasts: &'a mut [u32],
+    pub befores: &'a mut [u32],
+    pub reached: &'a mut [u32],
+    pub numbers: &'a mut [u32],
+    pub checked: Checked<'a>,
 }
 
 impl Tables<'_> {
-    ghost use Rattle.numbers.specs.Lent.{named, records, base, put, reaching, Same, Fits, Held, Right, Blank};
+    ghost use Rattle.numbers.specs.Lent.{named, records, base, own_names, put, reaching, Same, Fits, Held, Right, Blank, Chooses, NumbersOne, NumbersAll};
 
     // Puts entry e, which is x, into its bucket.
     fn enter(&mut self, x: &[u8], e: usize)
@@ -133,8 +122,7 @@ impl Tables<'_> {
         ensures { self.new ≡ put self.old x.now e }
     {
         let h = bucket(x, self.lasts.len());
-        self.befores[e] = self.lasts[h];
-        self.lasts[h] = e as u32;
+        file(self.lasts, self.befores, h, e);
     }
 
     // Puts the made name of binding b with the number n, which is entry e, into its bucket, and answers its bytes.
@@ -164,13 +152,14 @@ impl Tables<'_> {
         }
     }
 
-    // The number behind binding b's name, 1 for none. Where its bare name is an entry, that entry keeps the number.
+    // The number behind binding b's name, 1 for none, as `numbers` has it and `put_candidate` takes it: an Option would only turn that
+    // 1 back and forth. Where its bare name is an entry, that entry keeps the number.
     fn choose(&mut self, b: u32, count: usize) -> u32
         requires b_nonzero { (0 < b) × (b ≤ records self.old) }
         requires right { Right self.old count }
         ensures same { self.new ≡ reaching self.old self.new.reached.now }
         ensures long { length self.new.reached.now ≡ length self.old.reached.now }
-        ensures chosen { Chosen self.old.checked.script.bindings.now self.old.checked.script.names.now self.old.checked.script.text.now self.old.numbers.now count b result self.new.reached.now }
+        ensures chosen { Chooses self.old count b result self.new.reached.now }
     {
         let taken = self.taken(count);
         let bare = taken.find_candidate(b, 1);
@@ -189,7 +178,7 @@ impl Tables<'_> {
         requires right { Right self.old count }
         ensures same { Same self.old self.new }
         ensures right_2 { Right self.new (count + 1) }
-        ensures named { Named self.old.checked.script.bindings.now self.old.checked.script.names.now self.old.checked.script.text.now count b result self.old.numbers.now self.new.numbers.now }
+        ensures named { NumbersOne self.old self.new count b result }
     {
         let n = self.choose(b, count);
         let e = count + 1;
@@ -202,30 +191,28 @@ impl Tables<'_> {
         requires fits { Fits self.old (named self.old) }
         requires found { Found self.old.lasts.now self.old.befores.now [] }
         ensures same { Same self.old self.new }
-        ensures found_2 { Found self.new.lasts.now self.new.befores.now (names_of self.old.checked.script.names.now self.old.checked.script.text.now) }
+        ensures found_2 { Found self.new.lasts.now self.new.befores.now (own_names self.old) }
         ensures rest { (self.new.reached.now ≡ self.old.reached.now) × (self.new.numbers.now ≡ self.old.numbers.now) }
     {
-        let script = self.checked.script;
-        let names = Names {
-            pairs: script.names,
-            text: script.text,
-        };
-        let count = script.names.len() / 8;
+        let checked = self.checked;
+        let names = checked.names();
+        let count = checked.named();
         for k in 0..count {
             let name = names.bytes_of(k + 1);
             self.enter(name, k + 1);
         }
     }
 
-    // Finds the number behind each made name, over tables of zeros, and answers how many bytes the names have together.
-    fn find_numbers(&mut self) -> usize
+    // Finds the number behind each made name, over tables of zeros, and answers how many bytes the names have together. Behind
+    // the names of the script, `numbers` then has the number of each binding.
+    pub fn find_numbers(&mut self) -> usize
         requires blank { Blank self.old }
         ensures same { Same self.old self.new }
-        ensures numbered { Numbered self.old.checked.script.bindings.now self.old.checked.script.names.now self.old.checked.script.text.now result self.new.numbers.now }
+        ensures numbered { NumbersAll self.old self.new result }
     {
-        let script = self.checked.script;
-        let named = script.names.len() / 8;
-        let count = base_text::records_in(script.bindings);
+        let checked = self.checked;
+        let named = checked.named();
+        let count = base_text::records_in(checked.script.bindings);
         self.enter_names();
         let mut bytes: usize = 0;
         for k in 0..count {
@@ -233,27 +220,4 @@ impl Tables<'_> {
         }
         bytes
     }
-}
-
-// Finds the number behind each made name, over tables of zeros, and answers how many bytes the names have together. Behind
-// the names of the table, `numbers` then has the number of each binding. The tables come one by one: lent as one struct, which then
-// stands in memory, they cost up to 1.2 per cent more instructions.
-pub fn number_all(
-    lasts: &mut [u32],
-    befores: &mut [u32],
-    reached: &mut [u32],
-    numbers: &mut [u32],
-    checked: Checked,
-) -> usize
-    requires empty { Empty checked.script.bindings.now checked.script.names.now lasts.old befores.old reached.old numbers.old }
-    ensures { Numbered checked.entry.script.bindings.now checked.entry.script.names.now checked.entry.script.text.now result numbers.new }
-{
-    let mut tables = Tables {
-        lasts,
-        befores,
-        reached,
-        numbers,
-        checked,
-    };
-    tables.find_numbers()
 }

@@ -1,10 +1,9 @@
 -- Steps of a writer, as forests. Assumes nothing.
 use mathlib.Core.Path.{◌≡◌, ap, ◌∙◌}
-use mathlib.Core.List.{List}
 use Prim.Native.Nat.{ℕ, ◌+◌}
 use Rattle.forest.specs.Forest.{Rows, Rows.none, Rows.node}
 use Rattle.output.specs.declared.writer.Writer.{Writer}
-use Rattle.output.specs.Output.{Appended, Done}
+use Rattle.output.specs.Output.{Appended}
 use Rattle.output.specs.Held.{rowed, closed, Puts}
 use Rattle.output.proofs.Writing.{leaf, nest}
 
@@ -21,7 +20,3 @@ put_around {w} {w1} {w2} {w3} {k} {a} {n} {f} p q c =
 -- a row with nothing inside
 pub put_leaf : {w w1 : Writer} {k a n : ℕ} → w1 ≡ rowed w k a n (w.at + 1) → Puts w (node k a n none none) w1
 put_leaf p = leaf (put_row p)
-
--- the same, where the writer now stands at r
-pub put_to : {o o' : List ℕ} {at r s : ℕ} {f : Rows} → r ≡ s → Done o at f s o' → Done o at f r o'
-put_to q d = record { next = q ∙ d.next; wrote = d.wrote }

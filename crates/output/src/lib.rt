@@ -5,8 +5,8 @@
 
 pub mod writer;
 
-ghost use Rattle.std.specs.Prelude.{◌≡◌, ◌+◌, ◌≤◌, ◌<◌, ◌^◌, length};
-ghost use Rattle.output.specs.Output.{set_end, Appended, Recorded};
+ghost use Rattle.std.specs.Prelude.{◌<◌, ◌^◌};
+ghost use Rattle.output.specs.Output.{Appended, Recorded};
 
 use names::words::put_word;
 
@@ -26,26 +26,9 @@ fn append_row(out: &mut [u8], at: usize, kind: u32, attr: u32, name: u32, end: u
     next
 }
 
-// The end of row `at`, for a row whose children were written after it.
-fn patch_end(out: &mut [u8], at: usize, end: u32)
-    requires { at < 2 ^ 32 }
-    ensures { out.new ≡ set_end out.old at end }
-{
-    let b = at * 16;
-    if b + 16 <= out.len() {
-        put_word(out, b + 12, end);
-    }
-}
-
-// The same, where the end is the next row's number `at`.
-fn close_row(out: &mut [u8], row: usize, at: usize)
-    requires { (row < 2 ^ 32) × (at < 2 ^ 32) }
-    ensures { out.new ≡ set_end out.old row at }
-{
-    patch_end(out, row, at as u32);
-}
-
 // Record `at`, where it lies whole in the bytes; the answer is the next record's number.
+// One function of so many words for this and `append_row` is no plainer: it needs a loop with an invariant and a definition that stores a list of
+// words, where each body is its definition, line by line.
 pub fn put_record(out: &mut [u8], at: usize, a: u32, b: u32, c: u32) -> usize
     requires { at < 2 ^ 32 }
     ensures { Recorded out.old at a b c result out.new }

@@ -1,11 +1,10 @@
 // A writer over the output rows that a caller lends: it holds them, with the number of the next row.
-// It is taken apart here, and what is done to the rows is done by functions on rows and a number.
 ghost use Rattle.std.specs.Prelude.{◌≡◌, ◌+◌, ◌<◌, ◌^◌};
 ghost use Rattle.forest.specs.Forest.{Rows.none, Rows.node};
-ghost use Rattle.output.specs.Output.{Done};
 ghost use Rattle.output.specs.Held.{rowed, closed, Puts};
 
-use super::{append_row, close_row};
+use super::append_row;
+use names::words::put_word;
 
 // The lent rows, and the number of the next one.
 #[derive(Drop)]
@@ -14,11 +13,13 @@ pub struct Writer<'a> {
     pub at: usize,
 }
 
-// The lent rows go into the writer, with the number of the next row.
-pub fn new<'a>(rows: &'a mut [u8], at: usize) -> Writer<'a>
-    ensures { (result.rows ≡ rows.entry) × (result.at ≡ at) }
-{
-    Writer { rows: rows, at: at }
+impl<'a> Writer<'a> {
+    // The lent rows go into the writer, with the number of the next row.
+    pub fn new(rows: &'a mut [u8], at: usize) -> Writer<'a>
+        ensures { (result.rows ≡ rows.entry) × (result.at ≡ at) }
+    {
+        Writer { rows, at }
+    }
 }
 
 impl Writer<'_> {
@@ -65,37 +66,24 @@ impl Writer<'_> {
     }
 
     // Row `row` ends where the writer stands: the rows put since are inside it.
+    // One method over a closure of these rows is no plainer: each caller would prove besides that its closure may be called, keeps the lent rows and
+    // ends below 2 ^ 32, and in emit's walkers, a cycle of calls, a closure has only the contract that is written at it.
     pub fn close(&mut self, row: usize)
         requires { (row < 2 ^ 32) × (self.old.at < 2 ^ 32) }
         ensures same_reference { self.new.rows.ghost_name ≡ self.old.rows.ghost_name }
         ensures next { self.new.at ≡ self.old.at }
         ensures end { self.new ≡ closed self.old row }
     {
-        close_row(self.rows, row, self.at);
+        let b = row * 16;
+        if b + 16 <= self.rows.len() {
+            put_word(self.rows, b + 12, self.at as u32);
+        }
     }
-}
 
-// A row is appended, and the writer handed back.
-pub fn put<'a>(mut w: Writer<'a>, kind: u32, attr: u32, name: u32, end: u32) -> Writer<'a>
-    requires { w.at < 2 ^ 32 }
-    ensures { result ≡ rowed w.entry kind attr name end }
-{
-    w.append(kind, attr, name, end);
-    w
-}
-
-// Row `row` ends where the writer stands, and the writer is handed back.
-pub fn close<'a>(mut w: Writer<'a>, row: usize) -> Writer<'a>
-    requires { (row < 2 ^ 32) × (w.at < 2 ^ 32) }
-    ensures { result ≡ closed w.entry row }
-{
-    w.close(row);
-    w
-}
-
-// The number of the next row. The rows stay as they are.
-pub fn finish<'a>(w: Writer<'a>) -> usize
-    ensures { (result ≡ w.entry.at) × (w.exit.0.now ≡ w.entry.rows.now) }
-{
-    w.at
+    // The number of the next row. The rows stay as they are.
+    pub fn finish(self) -> usize
+        ensures { (result ≡ self.entry.at) × (self.exit.0.now ≡ self.entry.rows.now) }
+    {
+        self.at
+    }
 }

@@ -3,9 +3,7 @@
 
 #![tactic(auto)]
 
-mod store;
-
-ghost use Rattle.std.specs.Prelude.{◌≡◌, [], ◌+◌, ◌*◌, ◌≤◌, ◌<◌, ◌^◌, length, MatchResult};
+ghost use Rattle.std.specs.Prelude.{◌≡◌, [], ◌*◌, ◌≤◌, ◌<◌, ◌^◌, length, MatchResult};
 ghost use Rattle.acts.specs.View.{switches_of};
 ghost use Rattle.fields.specs.Fields.{lines, Lined};
 ghost use Rattle.parser.specs.Parse.{Read.faulty, RowsRead, SmallLines, NamesRead, Told, lent, from_first, from_fourth, sheet_of};
@@ -16,7 +14,7 @@ use fields::{
     is_name_header, is_row_header, is_switch_header, read_row, read_switches, split_line,
 };
 use names::words::put_pair;
-use store::put_row;
+use output::writer::Writer;
 
 // "or over 1,024 rows"
 pub const MOST_ROWS: usize = 1024;
@@ -33,20 +31,19 @@ fn read_rows(s: &[u8], line: usize, rows: &mut [u8]) -> Result<usize, FaultyLine
     ensures { (RowsRead s.now line rows.old result rows.new) × (SmallLines line result) }
 {
     let mut rest = s;
-    let mut n: usize = 0;
-    // A loop by hand: `split_line` gives the lines one by one, and their number is the answer: an iterator over it, with `enumerate`
-    // and a count besides, would be no plainer.
+    let mut w = Writer::new(rows, 0);
+    // A loop by hand: `split_line` gives the lines one by one, and the writer's number is the answer: an iterator over it would be
+    // no plainer.
     while let Some((text, after)) = split_line(rest) {
-        let fault = FaultyLine { line: line + n };
+        let fault = FaultyLine { line: line + w.at };
         let row = read_row(text).ok_or(fault)?;
-        if MOST_ROWS <= n {
+        if MOST_ROWS <= w.at {
             return Err(fault);
         }
-        put_row(rows, n, row);
-        n += 1;
+        w.append(row.kind, row.attr, row.name, row.end);
         rest = after;
     }
-    Ok(n)
+    Ok(w.at)
 }
 
 // How many names there are and how many bytes they have, and what stands behind the header of the
@@ -66,7 +63,8 @@ fn read_names<'a>(s: &'a [u8], pairs: &mut [u8], text: &mut [u8]) -> Result<Name
     let mut rest = s;
     let mut k: usize = 0;
     let mut t: usize = 0;
-    // A loop by hand: the same, and what stands behind the header of the rows is handed on, which a `for` could not do: no plainer.
+    // A loop by hand: `split_line` gives the lines one by one, and what stands behind the header of the rows is handed on, which a `for`
+    // could not do: no plainer.
     while let Some((name, after)) = split_line(rest) {
         if is_row_header(name) {
             return Ok(Names {

@@ -1,6 +1,6 @@
 -- What the code says of a slot or a state it says of each number that stands for it, those of no list too: nothing is lost by the narrower types. Assumes nothing.
 use native.Mathlib.Omega.{arith}
-use mathlib.Core.Path.{◌≡◌, refl, ap, sym, ◌∙◌}
+use mathlib.Core.Path.{◌≡◌, refl, sym, ◌∙◌}
 use mathlib.Core.Bool.{Bool, true, false, cond, ◌&&◌, ◌||◌}
 use Prim.Native.Nat.{ℕ, ◌<◌}
 use borrow.Author.Tests.{ne_eqb, ltb-false, lt-ltb}

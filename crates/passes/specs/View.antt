@@ -1,5 +1,5 @@
 -- The code's values as those of the steps. Assumes nothing.
-use Rattle.std.specs.Prelude.{ℕ, ◌≡◌, cond, ltb}
+use Rattle.std.specs.Prelude.{ℕ, ◌≡◌, Bool, true, false, cond, ltb}
 use Rattle.steps.specs.Slots.{free, of_method, body_of, late_body, wrapped, of_target, callee, dropped}
 use Rattle.steps.specs.Acts.{Op, Op.row, Op.drop, Op.name, Op.call}
 use Rattle.steps.specs.AfterSuper.{list, visit, copy, direct, once, heritage, members}
@@ -11,6 +11,8 @@ use Rattle.passes.specs.declared.states.State.{State}
 use Rattle.passes.specs.declared.states.State.TheVariants as state
 use Rattle.passes.specs.declared.Becomes.{Becomes}
 use Rattle.passes.specs.declared.Becomes.TheVariants as becomes
+use Rattle.passes.specs.declared.Assigned.{Assigned}
+use Rattle.passes.specs.declared.Assigned.TheVariants as assignments
 use Rattle.passes.specs.declared.Pass as answer
 
 -- a slot by its number
@@ -50,10 +52,22 @@ op_of becomes.Drop = drop
 op_of (becomes.Name u f) = name (capture_number u) f
 op_of (becomes.Call u f x t) = call (access_number u) f x t
 
+-- the row becomes a Sequence of itself and the assignment
+abbrev pub in_sequence : Assigned → Bool
+in_sequence assignments.Nowhere = false
+in_sequence assignments.InSequence = true
+in_sequence assignments.Behind = false
+
+-- the assignment goes behind the row
+abbrev pub is_behind : Assigned → Bool
+is_behind assignments.Nowhere = false
+is_behind assignments.InSequence = false
+is_behind assignments.Behind = true
+
 -- what module 7 says of a row, part by part
 pub record Says (r : answer.Pass) (p : Pass) : Type 0 where
-  pub met : r.met ≡ p.met
-  pub first : r.first ≡ p.first
+  pub met : in_sequence r.assigned ≡ p.met
+  pub first : is_behind r.assigned ≡ p.first
   pub scan : state_number r.scan ≡ p.scan
   pub next : state_number r.next ≡ p.next
   pub bind : r.bind ≡ p.bind

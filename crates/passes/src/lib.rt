@@ -12,7 +12,7 @@ ghost use Rattle.steps.specs.Acts.{Op.row};
 ghost use Rattle.steps.specs.Bindings.{closes};
 ghost use Rattle.steps.specs.AfterSuper.{list, visit, copy, once, heritage, members};
 ghost use Rattle.steps.specs.Fused.{met_of, direct_of, within, own, scan_of, next_of, anew, pass_of};
-ghost use Rattle.passes.specs.View.{slot_number, state_number, op_of, Says};
+ghost use Rattle.passes.specs.View.{slot_number, state_number, op_of, in_sequence, is_behind, Says};
 
 use grammar::kind::Kind;
 use slots::Slot;
@@ -45,38 +45,61 @@ pub enum Becomes {
     },
 }
 
-// What module 7 says of a row: whether it becomes a Sequence, whether the assignment goes behind it,
-// the state of its children and of the rows after it, and the binding assigned in its children.
+// Where module 7 puts its assignment at a row.
+#[derive(Clone, Copy)]
+pub enum Assigned {
+    // Nowhere.
+    Nowhere,
+    // In a Sequence of the row and it.
+    InSequence,
+    // Behind the row, as a statement.
+    Behind,
+}
+
+impl Assigned {
+    // Whether the row becomes a Sequence.
+    pub fn in_sequence(self) -> bool
+        ensures { result ≡ in_sequence self }
+    {
+        matches!(self, Assigned::InSequence)
+    }
+
+    // Whether the assignment goes behind the row.
+    pub fn is_behind(self) -> bool
+        ensures { result ≡ is_behind self }
+    {
+        matches!(self, Assigned::Behind)
+    }
+}
+
+// What module 7 says of a row: where the assignment goes, the state of its children and of the rows after it, and the binding
+// assigned in its children: a number, 0 for none, as the definition has it, of which nothing asks whether there is one. An Option would
+// be turned back into that number at each row.
 #[derive(Clone, Copy)]
 pub struct Pass {
-    pub met: bool,
-    pub first: bool,
+    pub assigned: Assigned,
     pub scan: State,
     pub next: State,
     pub bind: usize,
 }
 
-// "Any other called Super becomes a Sequence of itself and that assignment"; `sup`: its first child
-// is Super.
-#[tactic(auto, unfolding(steps::specs::Fused::met_of))]
-fn met_of(state: State, kind: Kind, sup: bool) -> bool
-    ensures { result ≡ met_of (state_number state) (kind_number kind) sup }
+// "Any other called Super becomes a Sequence of itself and that assignment"; `sup`: its first child is Super. "In each list (a Body's or
+// Block's children) the first direct `super(..)` statement"; `called`: its first child is a Call of Super.
+#[tactic(auto, unfolding(steps::specs::Fused::met_of, steps::specs::Fused::direct_of))]
+fn assigned_of(state: State, kind: Kind, sup: bool, called: bool) -> Assigned
+    ensures met { in_sequence result ≡ met_of (state_number state) (kind_number kind) sup }
+    ensures first { is_behind result ≡ direct_of (state_number state) (kind_number kind) called }
 {
     match kind {
-        Kind::Call if sup => matches!(state, State::Visit | State::Once | State::Heritage),
-        _ => false,
-    }
-}
-
-// "In each list (a Body's or Block's children) the first direct `super(..)` statement"; `called`:
-// its first child is a Call of Super.
-#[tactic(auto, unfolding(steps::specs::Fused::direct_of))]
-fn direct_of(state: State, kind: Kind, called: bool) -> bool
-    ensures { result ≡ direct_of (state_number state) (kind_number kind) called }
-{
-    match kind {
-        Kind::ExprStmt if called => matches!(state, State::List),
-        _ => false,
+        Kind::Call if sup => match state {
+            State::Visit | State::Once | State::Heritage => Assigned::InSequence,
+            _ => Assigned::Nowhere,
+        },
+        Kind::ExprStmt if called => match state {
+            State::List => Assigned::Behind,
+            _ => Assigned::Nowhere,
+        },
+        _ => Assigned::Nowhere,
     }
 }
 
@@ -103,23 +126,23 @@ fn own(slot: Slot, state: State) -> State
 
 // The state of the rows after it: "the scan of that list stops".
 #[tactic(auto, unfolding(steps::specs::Fused::next_of))]
-fn next_of(state: State, first: bool) -> State
-    ensures { state_number result ≡ next_of (state_number state) first }
+fn next_of(state: State, assigned: Assigned) -> State
+    ensures { state_number result ≡ next_of (state_number state) (is_behind assigned) }
 {
     match state {
         State::Heritage => State::Members,
         State::Once | State::Direct => State::Copy,
-        _ if first => State::Copy,
+        _ if assigned.is_behind() => State::Copy,
         _ => state,
     }
 }
 
 // Whether a row closes a frame: Program, StaticBlock, a Function's Body.
 #[tactic(auto, unfolding(steps::specs::Bindings::closes))]
-pub fn closes(slot: Slot, kind: usize) -> bool
-    ensures { result ≡ closes (slot_number slot) kind }
+pub fn closes(slot: Slot, kind: Kind) -> bool
+    ensures { result ≡ closes (slot_number slot) (kind_number kind) }
 {
-    match Kind::from(kind) {
+    match kind {
         Kind::Program | Kind::StaticBlock => true,
         Kind::Body => matches!(slot, Slot::BodyOf | Slot::LateBody),
         _ => false,
@@ -127,9 +150,10 @@ pub fn closes(slot: Slot, kind: usize) -> bool
 }
 
 // Module 8, "with module 7 run, in a constructor where a Super left in place has that constructor as
-// nearest Function": the children are such a Body's. `m` is the frame's captured `this`, 0 for none.
-fn anew(slot: Slot, kind: usize, m: usize) -> bool
-    ensures { result ≡ anew (slot_number slot) kind m }
+// nearest Function": the children are such a Body's. `m` is the frame's captured `this`, 0 for none, as the definition has it: an Option
+// would have to say too that what it holds is not 0, by a type of its own or by a `requires`.
+fn anew(slot: Slot, kind: Kind, m: usize) -> bool
+    ensures { result ≡ anew (slot_number slot) (kind_number kind) m }
 {
     closes(slot, kind) & ((slot == Slot::LateBody) & !(m == 0))
 }
@@ -160,17 +184,17 @@ fn scan_kind(kind: Kind, set: bool) -> State
 }
 
 // The state of the children of a row that stays, of that kind and attr.
-fn scan_row(state: State, met: bool, first: bool, kind: Kind, attr: usize) -> State
-    ensures { state_number result ≡ scan_of (state_number state) met first (row (kind_number kind) attr 0) }
+fn scan_row(state: State, assigned: Assigned, kind: Kind, attr: usize) -> State
+    ensures { state_number result ≡ scan_of (state_number state) (in_sequence assigned) (is_behind assigned) (row (kind_number kind) attr 0) }
 {
     let set = has_bit(1, attr);
-    if (state == State::Copy) | met {
+    if (state == State::Copy) | assigned.in_sequence() {
         return State::Copy;
     }
     if state == State::Direct {
         return State::Visit;
     }
-    if first {
+    if assigned.is_behind() {
         return State::Direct;
     }
     if state == State::Members {
@@ -181,11 +205,11 @@ fn scan_row(state: State, met: bool, first: bool, kind: Kind, attr: usize) -> St
 
 // The state of a row's children: "has its arguments visited"; "its arguments not visited".
 #[tactic(auto, unfolding(crate::specs::View::op_of, steps::specs::Fused::scan_of))]
-fn scan_of(state: State, met: bool, first: bool, op: Becomes) -> State
-    ensures { state_number result ≡ scan_of (state_number state) met first (op_of op) }
+fn scan_of(state: State, assigned: Assigned, op: Becomes) -> State
+    ensures { state_number result ≡ scan_of (state_number state) (in_sequence assigned) (is_behind assigned) (op_of op) }
 {
     match op {
-        Becomes::Row { kind, attr, .. } => scan_row(state, met, first, Kind::from(kind), attr),
+        Becomes::Row { kind, attr, .. } => scan_row(state, assigned, Kind::from(kind), attr),
         Becomes::Drop => state,
         Becomes::Name { .. } => State::Copy,
         Becomes::Call { .. } => within(state),
@@ -197,42 +221,37 @@ pub fn pass_of(
     b: usize,
     state: State,
     slot: Slot,
-    kind: usize,
+    kind: Kind,
     m: usize,
     sup: bool,
     called: bool,
     op: Becomes,
 ) -> Pass
-    ensures { Says result (pass_of b (state_number state) (slot_number slot) kind m sup called (op_of op)) }
+    ensures { Says result (pass_of b (state_number state) (slot_number slot) (kind_number kind) m sup called (op_of op)) }
 {
     // Nothing is visited, and no list starts anew: nearly every row.
     if (state == State::Copy) & !(slot == Slot::LateBody) {
         return Pass {
-            met: false,
-            first: false,
+            assigned: Assigned::Nowhere,
             scan: State::Copy,
             next: State::Copy,
             bind: b,
         };
     }
     let here = own(slot, state);
-    let row = Kind::from(kind);
-    let met = met_of(here, row, sup);
-    let first = direct_of(here, row, called);
-    let next = next_of(state, first);
+    let assigned = assigned_of(here, kind, sup, called);
+    let next = next_of(state, assigned);
     if anew(slot, kind, m) {
         return Pass {
-            met,
-            first,
+            assigned,
             scan: State::List,
             next,
             bind: m,
         };
     }
     Pass {
-        met,
-        first,
-        scan: scan_of(here, met, first, op),
+        assigned,
+        scan: scan_of(here, assigned, op),
         next,
         bind: b,
     }

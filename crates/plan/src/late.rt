@@ -103,7 +103,8 @@ fn function_leaves(
 #[inline(always)]
 #[tactic(auto, unfolding(steps::specs::Context::late_c))]
 pub fn is_late(node: Node<'_>, names: &Names<'_>, switches: Switches, q: Place) -> bool
-    ensures { result ≡ late_c (names_of names.now.pairs.now names.now.text.now) (switches_of switches) (place_of q) node.entry.at (kind_at (words node.entry.rows.now) node.entry.at) (attr_at (words node.entry.rows.now) node.entry.at) (children (words node.entry.rows.now) node.entry.at) }
+    ensures { result ≡ late_c (names_of names.now.pairs.now names.now.text.now) (switches_of switches) (place_of q) node.entry.at
+        (kind_at (words node.entry.rows.now) node.entry.at) (attr_at (words node.entry.rows.now) node.entry.at) (children (words node.entry.rows.now) node.entry.at) }
 {
     let attr = attr_at(node.rows, node.at);
     let constructor = has_bit(4, attr);

@@ -1,5 +1,6 @@
 // The acts of the kinds that need an act most often. Nothing below a row decides them, and but for a
-// Function and an Arrow its children's places are made from its own place as a number.
+// Function and an Arrow its children's places are made from its own place as a number. That is why they stand beside acts' `on_this`,
+// `on_keyed` and `on_other`, which say the same over spots: a struct of seven parts made the processor wait for them at each call (docs/DECISIONS.md).
 ghost use Rattle.std.specs.Prelude.{◌≡◌, Bool, ℕ, ◌<◌};
 ghost use Rattle.forest.specs.Forest.{Rows};
 ghost use Rattle.steps.specs.Mode.{Switches as Target};
@@ -11,7 +12,7 @@ ghost use Rattle.plan.specs.Taking.{Takes};
 
 use crate::hand_on;
 use crate::place::Place;
-use acts::act::{Act, Words, on_arrow, on_function};
+use acts::act::{Act, Words, kept, on_arrow, on_function};
 use acts::switches::Switches;
 use passes::Becomes;
 use passes::slots::Slot;
@@ -35,11 +36,7 @@ pub fn this_act(q: Place, row: Words) -> Act<Place>
         };
     }
     Act {
-        op: Becomes::Row {
-            kind: row.kind,
-            attr: row.attr,
-            name: row.name,
-        },
+        op: kept(row),
         one: inside,
         more: inside,
     }
@@ -51,11 +48,7 @@ pub fn method_act(q: Place, row: Words) -> Act<Place>
     ensures { (N : Names) (w : Target) (l : Bool) (o : ℕ) (i : Rows) → Takes w (place_of q).ctx (act N w l (place_of q).ctx (place_of q).slot o row.kind row.attr row.name i) result }
 {
     let more = q.within(Slot::OfMethod);
-    let op = Becomes::Row {
-        kind: row.kind,
-        attr: row.attr,
-        name: row.name,
-    };
+    let op = kept(row);
     if has_bit(1, row.attr) {
         return Act {
             op,
@@ -77,11 +70,7 @@ pub fn body_act(q: Place, row: Words) -> Act<Place>
 {
     let inside = q.inside();
     Act {
-        op: Becomes::Row {
-            kind: row.kind,
-            attr: row.attr,
-            name: row.name,
-        },
+        op: kept(row),
         one: inside,
         more: inside,
     }

@@ -32,7 +32,8 @@ fn is_plain(kind: Kind) -> bool
     )
 }
 
-// Whether a row of that kind and attr at `q` is known to stay as it is, its children standing where it stands.
+// Whether a row of that kind and attr at `q` is known to stay as it is, its children standing where it stands. The kind is the table's number:
+// what is promised is so of the number that is handed on, and from a `Kind` both walks would have to show that it is one of the list to have it back.
 pub fn stays(switches: Switches, q: Place, kind: usize, attr: usize) -> bool
     ensures { result ≡ true → Stays (switches_of switches) (place_of q) kind attr }
 {

@@ -3,7 +3,7 @@
 
 #![tactic(auto)]
 
-ghost use Rattle.std.specs.Prelude.{◌≡◌, [], ◌∷◌, ◌++◌, ℕ, ◌+◌, ◌*◌, ◌/◌, ◌≤◌, ◌<◌, ◌^◌, length, get_or};
+ghost use Rattle.std.specs.Prelude.{◌≡◌, [], ◌∷◌, ◌++◌, ◌+◌, ◌*◌, ◌/◌, ◌≤◌, ◌<◌, ◌^◌, length};
 ghost use Rattle.names.specs.Words.{words};
 ghost use Rattle.decimal.specs.Decimal.{decimal, Wrote};
 ghost use Rattle.printer.specs.Print.{line, row_at, lines_of, printed};
@@ -36,14 +36,15 @@ fn put_line(out: &mut [u8], at: usize, numbers: &[u32]) -> usize
     put_field(out, to, *last, NEWLINE)
 }
 
-// Words N * i to N * i + N of some bytes.
+// Words N * i to N * i + N of some bytes. A loop: the closure of `array::from_fn` would ask for the bounds of `bytes` again, in a
+// contract of its own: no plainer.
 fn row<const N: usize>(bytes: &[u8], i: usize) -> [u32; N]
     requires { (4 * (N * i + N) ≤ length bytes.now) × (length bytes.now < 2 ^ 40) }
     ensures { result ≡ row_at N (words bytes.now) i }
 {
     let mut numbers = [0; N];
     for j in 0..N {
-        numbers[j] = word(bytes, N * i + j);
+        numbers[j] = cell(bytes, N * i + j) as u32;
     }
     numbers
 }
@@ -90,12 +91,4 @@ pub fn print(number: u32, place: u32, rows: &[u8], records: &[u8], out: &mut [u8
     let l = put_rows::<4>(out, k, rows);
     let m = put_bytes(out, l, b"use property owner\n");
     put_rows::<3>(out, m, records)
-}
-
-// Word k of some bytes.
-fn word(s: &[u8], k: usize) -> u32
-    requires { 4 * k + 3 < length s.now }
-    ensures { result ≡ get_or (words s.now) k 0 }
-{
-    cell(s, k) as u32
 }

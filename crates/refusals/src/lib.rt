@@ -2,18 +2,18 @@
 
 #![tactic(auto)]
 
-pub mod firsts;
+mod firsts;
 mod standing;
 
-ghost use Rattle.std.specs.Prelude.{◌≡◌};
-ghost use Rattle.names.specs.Words.{rows_in};
-ghost use Rattle.forest.specs.Forest.{table};
+ghost use Rattle.std.specs.Prelude.{◌≡◌, ◌≤◌};
+ghost use Rattle.names.specs.Words.{words, rows_in};
+ghost use Rattle.forest.specs.Forest.{rows_at, table};
 ghost use Rattle.steps.specs.Mode.{Switches, mode_of};
 ghost use Rattle.steps.specs.Outcome.{names_of};
 ghost use Rattle.refusals.specs.Given.{GivenRows};
 ghost use Rattle.refusals.specs.Refused.{number_of, place_for, turned_away};
 
-use firsts::{first_arguments, first_field, first_super};
+use firsts::{Table, first_arguments, first_field, first_super};
 use spelling::Names;
 use steps::ArrowFunctionConverter;
 
@@ -49,8 +49,38 @@ impl Refused {
     }
 }
 
-// Refusals 6, 7 and 8, each over the whole table before the next. Called where `rows::check`
-// answers Sound: `given` of proofs/Giving.antt makes what is required of that.
+// Refusals 6, 7 and 8 of a table of at most N rows, with one array for the first two.
+fn refusal_over<const N: usize>(
+    table: &Table<'_>,
+    names: &Names<'_>,
+    converter: ArrowFunctionConverter,
+) -> Result<(), Refused>
+    requires { (table.now.count ≤ N) × (N ≤ 16384) }
+    ensures { (w : Switches) → converter.mode ≡ mode_of w → result ≡ turned_away (names_of names.now.pairs.now names.now.text.now) w (rows_at (words table.now.rows.now) 0 table.now.count) }
+{
+    if converter.is_disabled() {
+        return Ok(());
+    }
+    let mut entries = [0u16; N];
+    let only = converter.is_async_only();
+    if let Some(row) = first_super(table, &mut entries) {
+        return Err(Refused::SuperNotAllowed { row });
+    }
+    if let Some(row) = first_field(table, only, &mut entries) {
+        return Err(Refused::FieldHolds { row });
+    }
+    if !only {
+        return Ok(());
+    }
+    if let Some(row) = first_arguments(table, names) {
+        return Err(Refused::NamedArguments { row });
+    }
+    Ok(())
+}
+
+// Refusals 6, 7 and 8, each over the whole table before the next, with an array that is as large as the
+// table needs. Called where `rows::check` answers Sound: `given` of proofs/Giving.antt makes what is required of that. The sizes are
+// forest's, whose `first_fault` says why the choice of one is no function for all.
 pub fn refusal(
     rows: &[u8],
     names: &Names<'_>,
@@ -59,22 +89,11 @@ pub fn refusal(
     requires { GivenRows rows.now (rows_in rows.now) }
     ensures { (w : Switches) → converter.mode ≡ mode_of w → result ≡ turned_away (names_of names.now.pairs.now names.now.text.now) w (table rows.now) }
 {
-    if converter.is_disabled() {
-        return Ok(());
+    let count = rows.len() / 16;
+    let table = Table { rows, count };
+    match count {
+        ..=64 => refusal_over::<64>(&table, names, converter),
+        65..=1024 => refusal_over::<1024>(&table, names, converter),
+        _ => refusal_over::<16384>(&table, names, converter),
     }
-    let n = rows.len() / 16;
-    let only = converter.is_async_only();
-    if let Some(row) = first_super(rows, n) {
-        return Err(Refused::SuperNotAllowed { row });
-    }
-    if let Some(row) = first_field(rows, n, only) {
-        return Err(Refused::FieldHolds { row });
-    }
-    if !only {
-        return Ok(());
-    }
-    if let Some(row) = first_arguments(rows, names, n) {
-        return Err(Refused::NamedArguments { row });
-    }
-    Ok(())
 }

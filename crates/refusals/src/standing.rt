@@ -5,11 +5,11 @@
 ghost use Rattle.std.specs.Prelude.{◌≡◌, cond, ℕ, ◌+◌, ◌*◌, ◌%◌, ◌<◌, ◌≤◌, length, get_or};
 ghost use Rattle.grammar.specs.Codes.{kind_number};
 ghost use Rattle.steps.specs.Mode.{bit};
-ghost use Rattle.steps.specs.Refusals.{allows, method_holder, Keeper.plain, Keeper.builder, Keeper.method};
+ghost use Rattle.steps.specs.Refusals.{allows, Keeper.plain, Keeper.builder, Keeper.method};
 ghost use Rattle.refusals.specs.Standing.{keeper_of, keeper_no, keeper_at, owner_for, stand_for, super_bad};
 
 use grammar::kind::Kind;
-use steps::has_bit;
+use steps::{has_bit, holds_method};
 
 // The sort of an owner.
 #[derive(Clone, Copy)]
@@ -78,17 +78,6 @@ fn owner(first: bool, v: u16, kind: Kind, a: usize) -> Sort
         Kind::StaticBlock => Sort::Member,
         Kind::Field if !keyed => Sort::Member,
         _ => Sort::told(v),
-    }
-}
-
-// Whether the last child of a row of that kind and attr is method-like.
-fn holds_method(kind: Kind, a: usize) -> bool
-    ensures { result ≡ method_holder (kind_number kind) a }
-{
-    match kind {
-        Kind::Method => true,
-        Kind::Property => has_bit(2, a),
-        _ => false,
     }
 }
 

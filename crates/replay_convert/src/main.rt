@@ -87,8 +87,8 @@ impl Cases<4, 2> for Conversions {
             got,
             want,
             lent: [
-                (Part::Rows, same_bytes(rows, stored_rows)),
-                (Part::Bindings, same_bytes(records, stored_records)),
+                (!same_bytes(rows, stored_rows)).then_some(Part::Rows),
+                (!same_bytes(records, stored_records)).then_some(Part::Bindings),
             ],
         })
     }

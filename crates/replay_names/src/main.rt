@@ -13,50 +13,44 @@ use vectors::input::Fault;
 use vectors::runs::{Built, Kind, NameRoom, Names, Room};
 use vectors::words::Words;
 
-// The entry that is called.
-#[derive(Clone, Copy, PartialEq, Eq)]
-enum Entry {
-    Maker,
-    Lookup,
-}
-
-impl TryFrom<u32> for Entry {
-    type Error = Fault;
-
-    fn try_from(word: u32) -> Result<Entry, Fault> {
-        match word {
-            1 => Ok(Entry::Maker),
-            2 => Ok(Entry::Lookup),
-            _ => Err(Fault::Case),
-        }
-    }
-}
-
-// What a call asks for: for the maker how many bytes are lent for pairs and for text, for the lookup attr and number.
+// What a call asks for.
 #[derive(Clone, Copy)]
-struct Asked {
-    entry: Entry,
-    first: u32,
-    second: u32,
+enum Asked {
+    // The maker: how many bytes are lent for pairs and for text.
+    Maker { pairs: u32, text: u32 },
+    // The lookup: attr and number.
+    Lookup { attr: u32, number: u32 },
 }
 
 impl Asked {
     fn read(words: &mut Words<'_>) -> Result<Asked, Fault>
         ensures { IfOk result (λ _. length words.new.rest.now ≤ length words.old.rest.now) }
     {
-        Ok(Asked {
-            entry: Entry::try_from(words.next()?)?,
-            first: words.next()?,
-            second: words.next()?,
-        })
+        match words.next()? {
+            1 => Ok(Asked::Maker {
+                pairs: words.next()?,
+                text: words.next()?,
+            }),
+            2 => Ok(Asked::Lookup {
+                attr: words.next()?,
+                number: words.next()?,
+            }),
+            _ => Err(Fault::Case),
+        }
     }
 }
 
 // What the lookup answers: refusal, start and bytes, and a 0. It lends nothing.
-fn look_up(a: Asked, b: Built<'_>, want: Numbers<4>, made: Names<'_>) -> Compared<4, 2> {
+fn look_up(
+    attr: u32,
+    number: u32,
+    b: Built<'_>,
+    want: Numbers<4>,
+    made: Names<'_>,
+) -> Compared<4, 2> {
     let part = thawcopper::thawcopper_spelling(
-        a.first,
-        a.second,
+        attr,
+        number,
         b.names.pairs,
         b.names.text,
         made.pairs,
@@ -65,7 +59,7 @@ fn look_up(a: Asked, b: Built<'_>, want: Numbers<4>, made: Names<'_>) -> Compare
     Compared {
         got: Numbers::from([part.refusal, part.start, part.bytes, 0]),
         want,
-        lent: [(Part::Pairs, true), (Part::Text, true)],
+        lent: [None, None],
     }
 }
 
@@ -80,7 +74,8 @@ impl Lent {
     // What the maker answers: refusal, place, pairs and bytes.
     fn make(
         &mut self,
-        a: Asked,
+        pairs: u32,
+        text: u32,
         b: Built<'_>,
         want: Numbers<4>,
         made: Names<'_>,
@@ -90,9 +85,8 @@ impl Lent {
         if !counted {
             return Err(Fault::Case);
         }
-        let Lent { pairs, text } = self;
-        let pairs = lend(pairs, a.first)?;
-        let text = lend(text, a.second)?;
+        let pairs = lend(&mut self.pairs, pairs)?;
+        let text = lend(&mut self.text, text)?;
         let named = thawcopper::thawcopper_make_names(
             b.first,
             b.names.pairs,
@@ -104,8 +98,8 @@ impl Lent {
             got: Numbers::from([named.refusal, named.place, named.pairs, named.bytes]),
             want,
             lent: [
-                (Part::Pairs, same_bytes(pairs, made.pairs)),
-                (Part::Text, same_bytes(text, made.text)),
+                (!same_bytes(pairs, made.pairs)).then_some(Part::Pairs),
+                (!same_bytes(text, made.text)).then_some(Part::Text),
             ],
         })
     }
@@ -127,9 +121,9 @@ impl Cases<4, 2> for Calls {
         let built = room.build(words, Kind::Record)?;
         let want = words.answer()?;
         let made = made.build(words)?;
-        match asked.entry {
-            Entry::Maker => lent.make(asked, built, want, made),
-            Entry::Lookup => Ok(look_up(asked, built, want, made)),
+        match asked {
+            Asked::Maker { pairs, text } => lent.make(pairs, text, built, want, made),
+            Asked::Lookup { attr, number } => Ok(look_up(attr, number, built, want, made)),
         }
     }
 }

@@ -12,10 +12,10 @@ use lib.ListN.{length}
 use Rattle.names.specs.Words.{words, rows_in, names_in}
 use Rattle.grammar.specs.Kinds.{Declarator, Ident, Member, Function, Class, Other, Opaque}
 use Rattle.grammar.specs.Grammar.{made_row, names_one, name_ok}
-use Rattle.forest.specs.Faults.{told, or_else, first_fault}
+use Rattle.forest.specs.Faults.{told, first_fault}
 use Rattle.forest.specs.declared.Fault.{Fault}
 use Rattle.forest.specs.Told.{fault_at, first_deep, lowest_from, lowest_fault}
-use Rattle.names.specs.Answered.{unless_found}
+use Rattle.names.specs.Answered.{or_else, unless_found}
 use Rattle.names.specs.Names.{bad_name, first_bad_name}
 use Rattle.rows.specs.Sound.{GoodSizes}
 use Rattle.rows.specs.Refusals.{unsound_place, place_for, limited, sizes_ok, first_made, four, faulty, three, five, checked, Checked, Sound}

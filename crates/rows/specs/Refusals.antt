@@ -7,7 +7,6 @@ use Rattle.names.specs.Names.{names_fit, first_bad_name}
 use Rattle.grammar.specs.Grammar.{made_row}
 use Rattle.forest.specs.Faults.{first_fault, fault_number}
 use Rattle.forest.specs.Told.{first_deep}
-use Rattle.forest.specs.declared.BadRow.{BadRow as RowFault}
 use Rattle.rows.specs.declared.Unsound.{Unsound}
 use Rattle.rows.specs.declared.Unsound.TheVariants.{Malformed, BadName, BadRow, TooDeep, MadeBinding}
 

@@ -11,7 +11,7 @@ ghost use Rattle.rows.specs.Refusals.{unsound_number, unsound_place, limited, si
 
 use forest::depth::first_deep;
 use forest::faults::first_fault;
-use forest::{BadRow, Fault};
+use forest::{BadRow, Fault, RowBytes};
 
 // How large a table may be. A limit over 16,384 counts as 16,384.
 #[derive(Clone, Copy)]
@@ -110,17 +110,20 @@ pub fn check(rows: &[u8], names: &[u8], text: &[u8], limits: Limits) -> Result<(
     if !sizes_ok(most, rows.len(), names.len(), text.len()) {
         return Err(Unsound::Malformed);
     }
-    let n = rows.len() / 16;
+    let counted = RowBytes {
+        bytes: rows,
+        count: rows.len() / 16,
+    };
     if let Some(name) = names::first_bad_name(names, text) {
         return Err(Unsound::BadName { name });
     }
-    if let Some(BadRow { fault, row }) = first_fault(rows, n, names.len() / 8) {
+    if let Some(BadRow { fault, row }) = first_fault(&counted, names.len() / 8) {
         return Err(Unsound::BadRow { fault, row });
     }
-    if let Some(row) = first_deep(rows, n, deepest as u16) {
+    if let Some(row) = first_deep(&counted, deepest as u16) {
         return Err(Unsound::TooDeep { row });
     }
-    if let Some(row) = made::first_made(rows, n) {
+    if let Some(row) = made::first_made(&counted) {
         return Err(Unsound::MadeBinding { row });
     }
     Ok(())

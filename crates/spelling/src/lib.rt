@@ -7,7 +7,7 @@ ghost use Rattle.names.specs.Names.{same_bytes, same_name, is_arguments, bytes_o
 ghost use Rattle.spelling.specs.Spelling.{is_name, GivenNames};
 ghost use Rattle.spelling.specs.Hash.{hash_of};
 
-use names::words::cell;
+use names::words::pair_at;
 
 // Whether two spellings are the same.
 pub fn same_bytes(a: &[u8], b: &[u8]) -> bool
@@ -49,10 +49,8 @@ impl<'a> Names<'a> {
         if !self.is_name(k) {
             return &self.text[..0];
         }
-        let pair = 2 * (k - 1);
-        let start = cell(self.pairs, pair);
-        let end = start + cell(self.pairs, pair + 1);
-        &self.text[start..end]
+        let (start, n) = pair_at(self.pairs, k);
+        &self.text[start..start + n]
     }
 
     // Whether name k is spelled x.

@@ -8,24 +8,13 @@ use lib.ListN.{length, get_or, drop}
 use lib.Seq.{drop-cons}
 use native.Mathlib.Omega.{arith}
 use native.Mathlib.Nat.{add-zero}
+use Rattle.names.specs.Answered.{or_else}
 use Rattle.names.specs.First.{first}
 use Rattle.names.specs.Words.{kind_at, attr_at, name_at, end_at}
 use Rattle.forest.specs.Forest.{Rows, Rows.none, Rows.node, size, flat}
-use Rattle.steps.specs.Refusals.{or_else, Rule, seek, alone}
+use Rattle.steps.specs.Refusals.{Rule, seek, alone}
 use Rattle.names.proofs.Laying.{drop_all}
-
-pub else_nothing : (f : Option ℕ) → or_else f None ≡ f
-else_nothing (Some r) = refl
-else_nothing None = refl
-
-pub else_tree : (c i s l : Option ℕ) → or_else c (or_else i (or_else s l)) ≡ or_else (or_else c (or_else i s)) l
-else_tree (Some r) i s l = refl
-else_tree None (Some r) s l = refl
-else_tree None None s l = refl
-
-pub else_cond : (b : Bool) (o : ℕ) (g : Option ℕ) → or_else (cond b (Some o) None) g ≡ cond b (Some o) g
-else_cond true o g = refl
-else_cond false o g = refl
+use Rattle.names.proofs.OrElse.{or_none, or_tree, or_test}
 
 -- the four words of row i, and those of the rows after it
 pub drop-four : (ws : List ℕ) (i : ℕ) → 4 * i + 3 < length ws →
@@ -58,14 +47,14 @@ module _ (B : (o k a n e : ℕ) → List ℕ → Bool) (t : (k a n : ℕ) → Ro
   lead_flat o (node k a n i s) ws =
       let e : o + (1 + size i + size s) ≡ o + 1 + size i + size s = omega arith in
       rw (append_assoc (flat (o + 1) i) (flat (o + 1 + size i) s) ws, same o k a n i (flat (o + 1 + size i) s ++ ws), lead_flat (o + 1) i (flat (o + 1 + size i) s ++ ws), lead_flat (o + 1 + size i) s ws, e)
-      (else_tree (cond (t k a n i) (Some o) None) (seek (alone t) tt tt (o + 1) i) (seek (alone t) tt tt (o + 1 + size i) s) (lead (o + 1 + size i + size s) ws))
+      (or_tree (cond (t k a n i) (Some o) None) (seek (alone t) tt tt (o + 1) i) (seek (alone t) tt tt (o + 1 + size i) s) (lead (o + 1 + size i + size s) ws))
 
   lead_first : (ws : List ℕ) (f i : ℕ) → length ws ≡ 4 * (i + f) → lead i (drop (4 * i) ws) ≡ first (λ j. B j (kind_at ws j) (attr_at ws j) (name_at ws j) (end_at ws j) (drop (4 * (j + 1)) ws)) f i
   unfolding lead first
   lead_first ws zero i h = rw (drop_all (4 * i) ws (omega arith))
   lead_first ws (suc f) i h =
       let ih = lead_first ws f (i + 1) (omega arith) in
-      rw (drop-four ws i (omega arith), ih) (else_cond (B i (kind_at ws i) (attr_at ws i) (name_at ws i) (end_at ws i) (drop (4 * (i + 1)) ws)) i _)
+      rw (drop-four ws i (omega arith), ih) (or_test (B i (kind_at ws i) (attr_at ws i) (name_at ws i) (end_at ws i) (drop (4 * (i + 1)) ws)) i _)
 
   pub by-ends : (ws : List ℕ) (n : ℕ) (r : Rows) → flat 0 r ≡ ws → length ws ≡ 4 * n →
       first (λ j. B j (kind_at ws j) (attr_at ws j) (name_at ws j) (end_at ws j) (drop (4 * (j + 1)) ws)) n 0 ≡ seek (alone t) tt tt 0 r
@@ -74,7 +63,7 @@ module _ (B : (o k a n e : ℕ) → List ℕ → Bool) (t : (k a n : ℕ) → Ro
       sym (lead_first ws n 0 (omega arith))
       ∙ ap (lead 0) (sym q ∙ sym (append-nil (flat 0 r)))
       ∙ lead_flat 0 r []
-      ∙ else_nothing (seek (alone t) tt tt 0 r)
+      ∙ or_none (seek (alone t) tt tt 0 r)
 
 -- a test that asks kind, attr and name alone
 pub by_rows : (t : (k a n : ℕ) → Bool) (ws : List ℕ) (n : ℕ) (r : Rows) → flat 0 r ≡ ws → length ws ≡ 4 * n → first (λ j. t (kind_at ws j) (attr_at ws j) (name_at ws j)) n 0 ≡ seek (alone (λ k a n i. t k a n)) tt tt 0 r

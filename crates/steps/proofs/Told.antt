@@ -17,8 +17,10 @@ use Rattle.forest.specs.Forest.{Rows, Rows.none, Rows.node, size, flat, tree, ro
 use Rattle.forest.proofs.Nesting.{tree-more, tree_done}
 use Rattle.forest.proofs.Accepting.{length-flat}
 use Rattle.forest.proofs.Down.{down-long, told-down}
-use Rattle.steps.specs.Refusals.{or_else, Rule, seek}
-use Rattle.steps.proofs.Seeks.{else_tree, else_cond, drop-four, first-same}
+use Rattle.steps.specs.Refusals.{Rule, seek}
+use Rattle.names.specs.Answered.{or_else}
+use Rattle.names.proofs.OrElse.{or_tree, or_test}
+use Rattle.steps.proofs.Seeks.{drop-four, first-same}
 use Rattle.names.proofs.Laying.{drop_all}
 
 -- row 0 and what is below it, where it ends at the row count
@@ -53,7 +55,7 @@ module _ (t : ℕ → ℕ → ℕ → ℕ → ℕ) (b : ℕ → ℕ → ℕ → 
       let hi = lead_flat (o + 1) i (t v k a pos) k' a' 0 (flat (o + 1 + size i) s ++ ws) (down t v k a (pos + 1) s ++ vs) in
       let hs = lead_flat (o + 1 + size i) s v k a (pos + 1) ws vs in
       rw (append_assoc (flat (o + 1) i) (flat (o + 1 + size i) s) ws, append_assoc (down t (t v k a pos) k' a' 0 i) (down t v k a (pos + 1) s) vs, hi, hs, steady v k a pos, e)
-      (else_tree (cond (b u k' a' n') (Some o) None) (seek tells (t u k' a' 0) (t u k' a' 1) (o + 1) i) (seek tells (t v k a 1) (t v k a 1) d s) (lead (d + size s) ws vs))
+      (or_tree (cond (b u k' a' n') (Some o) None) (seek tells (t u k' a' 0) (t u k' a' 1) (o + 1) i) (seek tells (t v k a 1) (t v k a 1) d s) (lead (d + size s) ws vs))
 
   lead_first : (ws vs : List ℕ) (f i : ℕ) → length ws ≡ 4 * (i + f) → length vs ≡ i + f →
       lead i (drop (4 * i) ws) (drop i vs) ≡ first (λ j. b (get_or vs j 0) (kind_at ws j) (attr_at ws j) (name_at ws j)) f i
@@ -61,7 +63,7 @@ module _ (t : ℕ → ℕ → ℕ → ℕ → ℕ) (b : ℕ → ℕ → ℕ → 
   lead_first ws vs zero i h l = rw (drop_all (4 * i) ws (omega arith))
   lead_first ws vs (suc f) i h l =
       let ih = lead_first ws vs f (i + 1) (omega arith) (omega arith) in
-      rw (drop-four ws i (omega arith), drop-cons vs i 0 (omega arith), ← add-one i, ih) (else_cond (b (get_or vs i 0) (kind_at ws i) (attr_at ws i) (name_at ws i)) i _)
+      rw (drop-four ws i (omega arith), drop-cons vs i 0 (omega arith), ← add-one i, ih) (or_test (b (get_or vs i 0) (kind_at ws i) (attr_at ws i) (name_at ws i)) i _)
 
   root_lead : (r k a n : ℕ) (i : Rows) → lead 0 (flat 0 (node k a n i none)) (r ∷ down t r k a 0 i) ≡ seek tells r r 0 (node k a n i none)
   unfolding lead flat seek

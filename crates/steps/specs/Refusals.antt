@@ -1,13 +1,10 @@
 -- Refusals 6, 7 and 8 of "Turned away", over the forest of a table: each is the first row of which a test holds. Assumes nothing.
 use Rattle.std.specs.Prelude.{ℕ, ◌+◌, Bool, true, false, cond, not, ◌&&◌, ◌||◌, eqb, Option, Some, None}
 use Rattle.grammar.specs.Kinds.{Program, Declarator, Super, Call, Arrow, Function, Class, Method, Field, StaticBlock, Property}
+use Rattle.names.specs.Answered.{or_else}
 use Rattle.forest.specs.Forest.{Rows, Rows.none, Rows.node, size}
 use Rattle.steps.specs.Mode.{Switches, bit, enabled, async_only}
 use Rattle.steps.specs.Naming.{Names, named_arguments}
-
-abbrev pub or_else : Option ℕ → Option ℕ → Option ℕ
-or_else None g = g
-or_else (Some r) g = Some r
 
 -- A test of rows, given what a row is told from outward; `one` and `more` say what its first child and its later ones are told.
 pub record Rule (C : Type 0) : Type 0 where

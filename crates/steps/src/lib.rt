@@ -1,9 +1,13 @@
-// Module 1: the mode, from the three switches of the target; and how a bit of an attr is read.
+// Module 1: the mode, from the three switches of the target; how a bit of an attr is read; and what holds a method.
 
 #![tactic(auto)]
 
 ghost use Rattle.std.specs.Prelude.{◌≡◌, ◌≤◌};
+ghost use Rattle.grammar.specs.Codes.{kind_number};
 ghost use Rattle.steps.specs.Mode.{bit, mode_of, switches, is_disabled, is_async_only, moves};
+ghost use Rattle.steps.specs.Refusals.{method_holder};
+
+use grammar::kind::Kind;
 
 // The mode of the conversion of arrow functions.
 #[derive(Clone, Copy, PartialEq, Eq)]
@@ -92,4 +96,16 @@ pub fn has_bit(j: usize, word: usize) -> bool
     ensures { result ≡ bit j word }
 {
     word / j % 2 == 1
+}
+
+// Whether the last child of a row of that kind and attr is method-like: "last child of a Method, or of a
+// Property with bit 1".
+pub fn holds_method(kind: Kind, attr: usize) -> bool
+    ensures { result ≡ method_holder (kind_number kind) attr }
+{
+    match kind {
+        Kind::Method => true,
+        Kind::Property => has_bit(2, attr),
+        _ => false,
+    }
 }

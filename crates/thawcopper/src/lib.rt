@@ -3,7 +3,7 @@
 
 #![tactic(auto)]
 
-ghost use Rattle.std.specs.Prelude.{◌≡◌, false, ℕ, ◌<◌, ◌^◌, length};
+ghost use Rattle.std.specs.Prelude.{◌≡◌, false, ◌<◌, ◌^◌, length};
 ghost use Rattle.base_text.specs.Refusals.{base_text, spelled};
 ghost use Rattle.candidates.specs.MadeNames.{made_names};
 ghost use Rattle.made_names.specs.Naming.{named};
@@ -169,7 +169,7 @@ pub struct Answer {
     pub bindings: u32,
 }
 
-// The numbers of an answer, where they fit 32 bits.
+// The numbers of an answer, where they fit 32 bits. No `From` of these numbers: its `from` can't ask that they fit.
 fn answer_of(numbers: Numbers) -> Answer
     requires { (numbers.place < 2 ^ 32) × ((numbers.rows < 2 ^ 32) × (numbers.bindings < 2 ^ 32)) }
     ensures { (result.refusal ≡ numbers.number) × (result.place ≡ numbers.place) × (result.rows ≡ numbers.rows) × (result.bindings ≡ numbers.bindings) }

@@ -1,12 +1,13 @@
 // The cases of the input, run one behind the other: how many there are, and how many of them differ.
 ghost use Rattle.std.specs.Prelude.{◌≡◌, ◌+◌, ◌^◌, ◌<◌, ◌≤◌, length, replicate, IfOk};
+ghost use Rattle.std.specs.Io.KnownBytes.{Consumes};
 
 use crate::compared::Compared;
 use crate::input::{Fault, numbers};
 use crate::words::Words;
 use reading::read_full;
-use std::io;
 use std::io::Read;
+use std::{fmt, io};
 
 // A program's cases: answers with N numbers, calls that lend P parts.
 pub trait Cases<const N: usize, const P: usize> {
@@ -15,11 +16,24 @@ pub trait Cases<const N: usize, const P: usize> {
         ensures { IfOk result (λ _. length words.new.rest.now ≤ length words.old.rest.now) };
 }
 
-// How many cases there are, and how many of them differ.
+// How many cases there are of what, and how many of them differ.
 #[derive(Clone, Copy)]
-pub struct Tally {
+pub struct Tally<'a> {
+    pub what: &'a str,
     pub cases: usize,
     pub differ: usize,
+}
+
+// The last line that is printed.
+impl fmt::Display for Tally<'_> {
+    ghost use Rattle.std.specs.Prelude.{Some};
+    ghost use Rattle.vectors.specs.Told.{tally_text};
+
+    ghost output = { λ t. Some (tally_text t) };
+
+    fn fmt<W: fmt::Write>(&self, f: &mut fmt::Formatter<W>) -> fmt::Result {
+        write!(f, "{} {}, {} differ", self.cases, self.what, self.differ)
+    }
 }
 
 // Case n, which stands at the start of the words and begins with its number.
@@ -38,16 +52,19 @@ fn run_case<const N: usize, const P: usize, C: Cases<N, P>>(
 
 // Runs the cases, and prints a line for each that differs. A case that cannot be read counts as a difference and ends the run,
 // as no later case can be found.
-fn run_all<const N: usize, const P: usize, C: Cases<N, P>>(
+fn run_all<'a, const N: usize, const P: usize, C: Cases<N, P>>(
     rt: &impl Print,
     cases: &mut C,
     words: &[u32],
-) -> io::Result<Tally>
+    what: &'a str,
+) -> io::Result<Tally<'a>>
     requires { N + P ≤ 2 ^ 16 }
-    ensures { IfOk result (λ t. (t.differ ≤ t.cases) × (t.cases ≤ length words.now)) }
+    ensures counts { IfOk result (λ t. (t.differ ≤ t.cases) × (t.cases ≤ length words.now)) }
+    ensures named { IfOk result (λ t. t.what.now ≡ what.entry.now) }
 {
     let mut words = Words { rest: words };
     let mut tally = Tally {
+        what,
         cases: 0,
         differ: 0,
     };
@@ -70,6 +87,14 @@ fn run_all<const N: usize, const P: usize, C: Cases<N, P>>(
         }
     }
     Ok(tally)
+}
+
+// The bytes of an input, read to the start of the room, as far as it has room.
+fn read_input<'a, R: Read>(input: &mut R, room: &'a mut [u8]) -> io::Result<&'a [u8]>
+    ensures { IfOk result (λ s. Consumes (R.remaining input.old) (R.remaining input.new) s.now) }
+{
+    let n = read_full(input, room)?;
+    Ok(&room[..n])
 }
 
 // Room for an input of less than B bytes, with at most W numbers.
@@ -101,13 +126,13 @@ impl<const B: usize, const W: usize> Input<B, W> {
         requires { N + P ≤ 2 ^ 16 }
     {
         let Input { bytes, words } = self;
-        let n = read_full(input, bytes)?;
-        let (words, whole) = numbers(&bytes[..n], words);
-        let mut tally = run_all(rt, cases, words)?;
-        if n == bytes.len() || whole.is_err() {
+        let read = read_input(input, bytes)?;
+        let (words, whole) = numbers(read, words);
+        let mut tally = run_all(rt, cases, words, what)?;
+        if read.len() == B || whole.is_err() {
             println!(rt; "{}", Fault::Input)?;
             tally.differ += 1;
         }
-        println!(rt; "{} {what}, {} differ", tally.cases, tally.differ)
+        println!(rt; "{tally}")
     }
 }

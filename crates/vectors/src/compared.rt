@@ -1,5 +1,5 @@
 // What a case answers and leaves in the bytes that it lends, beside what is stored.
-ghost use Rattle.std.specs.Prelude.{◌≡◌, ◌↔◌, length, min, take, drop, replicate, All, IfOk, IsTrue};
+ghost use Rattle.std.specs.Prelude.{◌≡◌, ◌↔◌, length, min, take, drop, replicate, All, IfOk, IsNone, IsTrue};
 
 use crate::input::Fault;
 use std::fmt;
@@ -8,7 +8,8 @@ use std::fmt;
 #[derive(Clone, Copy, PartialEq, Eq)]
 pub struct Numbers<const N: usize>(pub [u64; N]);
 
-// N words as numbers of an answer.
+// N words as numbers of an answer. A loop: the closure of `array::from_fn` would ask for N words in a contract of its own, and
+// `[u32; N]::map` asks that its iterator fits in memory, which `From` below can't ask: no plainer.
 pub(crate) fn widened<const N: usize>(words: &[u32]) -> [u64; N]
     requires { length words.now ≡ N }
     ensures { result ≡ words.now }
@@ -62,19 +63,19 @@ impl fmt::Display for Part {
     }
 }
 
-// An answer of N numbers beside the stored one, and for each of the P parts lent whether it holds what is stored.
+// An answer of N numbers beside the stored one, and each of the P parts lent if it differs from what is stored.
 #[derive(Clone, Copy)]
 pub struct Compared<const N: usize, const P: usize> {
     pub got: Numbers<N>,
     pub want: Numbers<N>,
-    pub lent: [(Part, bool); P],
+    pub lent: [Option<Part>; P],
 }
 
 impl<const N: usize, const P: usize> Compared<N, P> {
     pub fn is_same(&self) -> bool
-        ensures { IsTrue result ↔ (self.now.got ≡ self.now.want) × All (λ l. IsTrue l.1) self.now.lent }
+        ensures { IsTrue result ↔ (self.now.got ≡ self.now.want) × All (λ l. IsNone l) self.now.lent }
     {
-        self.got == self.want && self.lent.iter().all(|l| l.1)
+        self.got == self.want && self.lent.iter().all(|l| l.is_none())
     }
 }
 
@@ -82,8 +83,8 @@ impl<const N: usize, const P: usize> Compared<N, P> {
 impl<const N: usize, const P: usize> fmt::Display for Compared<N, P> {
     fn fmt<W: fmt::Write>(&self, f: &mut fmt::Formatter<W>) -> fmt::Result {
         write!(f, "got {}, want {}", self.got, self.want)?;
-        for (part, same) in &self.lent {
-            if !*same {
+        for part in &self.lent {
+            if let Some(part) = part {
                 write!(f, ", and {part}")?;
             }
         }

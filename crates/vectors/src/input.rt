@@ -58,7 +58,7 @@ fn skip(s: &[u8]) -> &[u8]
 
 // The number that s starts with, and what stands behind it. No digit there, or more than a u32 holds: none.
 fn number(s: &[u8]) -> Option<(u32, &[u8])>
-    ensures { IfSome result (λ p. length p.1.now ≤ length s.now) }
+    ensures { IfSome result (λ p. length p.1.now < length s.now) }
 {
     let n = s
         .iter()
@@ -69,25 +69,28 @@ fn number(s: &[u8]) -> Option<(u32, &[u8])>
     Some((value, rest))
 }
 
-// Reads the numbers of s into words, as many as stand before a byte that is out of place or as words has room for,
-// and says whether these are all of s.
-pub fn numbers<'a>(s: &[u8], words: &'a mut [u32]) -> (&'a [u32], Result<(), Fault>)
-    ensures { length result.0.now ≤ length words.old }
-{
-    let mut rest = skip(s);
-    let mut count = 0;
-    for word in words.iter_mut() {
-        let Some((value, after)) = number(rest) else {
-            break;
-        };
-        *word = value;
-        count += 1;
-        rest = skip(after);
-    }
-    let whole = if rest.is_empty() {
+// Whether nothing is left to be read.
+fn ended(rest: &[u8]) -> Result<(), Fault> {
+    if rest.is_empty() {
         Ok(())
     } else {
         Err(Fault::Input)
-    };
-    (&words[..count], whole)
+    }
+}
+
+// Reads the numbers of s into words, as many as stand before a byte that is out of place or as words has room for,
+// and says whether these are all of s.
+pub fn numbers<'a>(s: &[u8], words: &'a mut [u32]) -> (&'a [u32], Result<(), Fault>)
+    ensures room { length result.0.now ≤ length words.old }
+    ensures apart { length result.0.now ≤ length s.now }
+{
+    let mut rest = skip(s);
+    for i in 0..words.len() {
+        let Some((value, after)) = number(rest) else {
+            return (&words[..i], ended(rest));
+        };
+        words[i] = value;
+        rest = skip(after);
+    }
+    (words, ended(rest))
 }

@@ -70,15 +70,14 @@ fn put_bytes(room: &mut [u8], first: u32, step: u32) {
 
 // Writes the words of an item, of which word `growing` has grown by `by`, each word's low byte first.
 fn put_item(place: &mut [u8], item: &[u32], growing: usize, by: u32) {
-    for (i, (place, word)) in place.chunks_exact_mut(4).zip(item).enumerate() {
+    let (places, _) = place.as_chunks_mut::<4>();
+    for (i, (place, word)) in places.iter_mut().zip(item).enumerate() {
         let word = if i == growing {
             word.wrapping_add(by)
         } else {
             *word
         };
-        for (to, b) in place.iter_mut().zip(&word.to_le_bytes()) {
-            *to = *b;
-        }
+        *place = word.to_le_bytes();
     }
 }
 

@@ -112,9 +112,9 @@ module _ (w : Switches) (rows names text : List ℕ) (on : (enabled w || async_o
   rows_are bs q = ap (λ (r : Result). r.rows) (steps_on N w (table rows) on) ∙ ap (λ (cs : List Binding). emit_s N w cs 0 copy (spot start free) (spot start free) 0 (table rows)) (sym q)
 
 -- room for all of the bindings
-pub bindings_few : (w : Switches) (rows names text made : List ℕ) (cap : ℕ) → Ready w rows names text made cap → length (made_c (names_of names text) w (table rows)) < cap
-bindings_few w rows names text made cap S =
-    omega (arith, (result_within 16384 128 w rows names text S.accepted).few, ap length (bindings_are w rows names text S.on), S.fits)
+pub bindings_few : (w : Switches) (rows names text made : List ℕ) (cap : ℕ) → Accepted 16384 128 w rows names text → Ready w rows names text made cap → length (made_c (names_of names text) w (table rows)) < cap
+bindings_few w rows names text made cap A S =
+    omega (arith, (result_within 16384 128 w rows names text A).few, ap length (bindings_are w rows names text S.on), S.fits)
 
 -- the answer by a walk over no bytes, which counts
 pub counted-room : (room : ℕ) {f : Rows} {total : ℕ} {after : List ℕ} → Done [] 0 f total after → leb total room ≡ leb (size f) room

@@ -25,16 +25,15 @@ becomes_function w k a = eqb k Arrow && to_function? w a
 abbrev pub Unchanged : Switches → (rows names text : List ℕ) → Type 0
 Unchanged w rows names text = steps (names_of names text) w (table rows) ≡ record { rows = table rows; bindings = [] }
 
--- what the two walks are made over: a table that refusals 1, 3 to 8 and 21 to 25 leave, in a mode that changes rows, and an empty array with room for its bindings
+-- what the two walks are made over, beside an accepted table: a mode that changes rows, and an empty array with room for its bindings
 pub record Ready (w : Switches) (rows names text made : List ℕ) (cap : ℕ) : Type 0 where
-  pub accepted : Accepted 16384 128 w rows names text
   pub on : (enabled w || async_only w) ≡ true
   pub empty : Store made cap 0
   pub unfiled : Filed names text (behind cap made) cap []
   pub low : cap ≤ 16384
   pub fits : rows_in rows ≤ cap
 
--- what the second walk is made over: such a table, and the array that the first walk made, with its bindings
+-- what the second walk is made over: an accepted table in such a mode, and the array that the first walk made, with its bindings
 pub record Collected (rows names text : List ℕ) (v : Walk) : Type 0 where
   pub accepted : Accepted 16384 128 (switches_of v.switches) rows names text
   pub on : (enabled (switches_of v.switches) || async_only (switches_of v.switches)) ≡ true

@@ -3,26 +3,24 @@
 
 #![tactic(auto)]
 
-mod copy;
+mod records;
 
 ghost use Rattle.std.specs.Prelude.{◌≡◌, true, leb};
-ghost use Rattle.names.specs.Words.{rows_in};
-ghost use Rattle.forest.specs.Forest.{size, NoRow, table};
+ghost use Rattle.forest.specs.Forest.{size, NoRow, table as forest_of};
 ghost use Rattle.steps.specs.Accepted.{Accepted};
 ghost use Rattle.acts.specs.View.{switches_of};
 ghost use Rattle.emit_plan.specs.Plans.{emitted_of};
-ghost use Rattle.refusals.specs.Given.{GivenRows};
 ghost use Rattle.walks.specs.Ready.{Ready, CollectedOf, Gives, Unchanged, becomes_function};
 
 use acts::switches::Switches;
 use answer::{Converted, Refusal};
 use bindings::view::Bindings;
 use collect::make_bindings;
-use copy::write_records;
 use emit::emit;
 use emit_plan::Walk;
 use grammar::kind::Kind;
-use names::words::cell;
+use names::words::{attr_at, kind_at};
+use records::write_records;
 use spelling::Names;
 use steps::has_bit;
 
@@ -46,20 +44,21 @@ fn has_room(walk: &Walk<'_, '_>, room: usize) -> bool
 }
 
 // Whether no Arrow becomes a Function: "Enabled, not async".
-fn keeps_arrows(switches: Switches, rows: &[u8]) -> bool
-    requires { GivenRows rows.now (rows_in rows.now) }
-    ensures { result ≡ true → NoRow (becomes_function (switches_of switches)) (table rows.now) }
+fn keeps_arrows(table: &AcceptedTable<'_>) -> bool
+    ensures { result ≡ true → NoRow (becomes_function (switches_of table.now.switches)) (forest_of table.now.rows.now) }
 {
-    let enabled = switches.is_enabled();
+    let rows = table.rows;
+    let enabled = table.switches.is_enabled();
     (0..rows.len() / 16).all(|i| {
-        let kind = Kind::from(cell(rows, 4 * i));
-        let attr = cell(rows, 4 * i + 1);
-        let is_async = has_bit(1, attr);
+        let kind = Kind::from(kind_at(rows, i));
+        let is_async = has_bit(1, attr_at(rows, i));
         !((kind == Kind::Arrow) & (enabled & !is_async))
     })
 }
 
 // The rows as they are, where there is room for them: "Disabled: rows copied, no bindings."
+// One struct of both rooms, here and in converter and thawcopper, is no plainer: lent, each function would promise besides that it still holds these
+// two slices, as over a `Writer`; by value, the contracts would call what is left of them `exit.0` and `exit.1.0`.
 pub fn unchanged(
     table: &AcceptedTable<'_>,
     out_rows: &mut [u8],
@@ -118,7 +117,7 @@ pub fn write_result(
         out_rows.old out_rows.new out_bindings.old out_bindings.new }
 {
     let count = make_bindings(table.rows, &table.names, table.switches, made, cap);
-    if count == 0 && keeps_arrows(table.switches, table.rows) {
+    if count == 0 && keeps_arrows(table) {
         return unchanged(table, out_rows, out_bindings);
     }
     let bindings = Bindings { made, cap, count };

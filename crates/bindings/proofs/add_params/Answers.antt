@@ -1,23 +1,15 @@
 -- `bindings::add_params` meets its contract. Assumes nothing.
-use mathlib.Core.Path.{refl, ◌∙◌}
-use Rattle.bindings.proofs.Uses.{wanted_by}
+use Rattle.uses.specs.Uses.{access_number}
+use mathlib.Core.Path.{◌∙◌}
+use Rattle.bindings.proofs.Uses.{wanted_by, is-set}
 use Rattle.bindings.proofs.Closing.{two-first, two-second, two-kept}
 use Rattle.bindings.proofs.add_params.Goals as goal
 
-pub add_one-computed-requires : goal.add_one-computed-requires
-add_one-computed-requires c = record {
-  asked = two-first c.args.made.now c.args.cap c.args.count c.args.u c.args.x c.args.f c.requires;
-  u_value = refl;
-}
+pub add_one-computed-requires-clause-asked : goal.add_one-computed-requires-clause-asked
+add_one-computed-requires-clause-asked c = two-first c.args.made.now c.args.cap c.args.count (access_number c.args.access) c.args.x c.args.f c.requires
 
-pub add_one-requires : goal.add_one-requires
-add_one-requires c = record {
-  asked = rw c.number.ensures (two-second c.args.made.now c.args.cap c.args.count c.args.u c.args.x c.args.f c.requires _ _ c.add_one-computed.ensures.kept);
-  u_value = refl;
-}
+pub add_one-requires-clause-asked : goal.add_one-requires-clause-asked
+add_one-requires-clause-asked c = rw (c.eq.ensures ∙ is-set c.args.access) (two-second c.args.made.now c.args.cap c.args.count (access_number c.args.access) c.args.x c.args.f c.requires _ _ c.add_one-computed.ensures.kept)
 
-pub returns : goal.returns
-returns c = record {
-  kept = two-kept c.args.made.now c.args.cap c.args.count c.args.u c.args.x c.args.f c.requires _ _ c.add_one-computed.ensures.kept _ _ (wanted_by _ _ _ c.number.ensures c.add_one.ensures.kept);
-  made_unchanged = c.add_one.ensures.made_unchanged ∙ c.add_one-computed.ensures.made_unchanged;
-}
+pub returns-clause-kept : goal.returns-clause-kept
+returns-clause-kept c = two-kept c.args.made.now c.args.cap c.args.count (access_number c.args.access) c.args.x c.args.f c.requires _ _ c.add_one-computed.ensures.kept _ _ (wanted_by _ _ (c.eq.ensures ∙ is-set c.args.access) c.add_one.ensures.kept)

@@ -5,17 +5,17 @@ use Rattle.names.specs.Words.{words, rows_in, kind_at, attr_at, name_at}
 use Rattle.forest.specs.Nested.{Range}
 use Rattle.forest.proofs.Walking.{inner}
 use Rattle.steps.specs.Outcome.{names_of}
+use Rattle.steps.specs.Bindings.{closes}
 use Rattle.steps.specs.Context.{Spot}
 use Rattle.below.specs.Below.{children}
+use Rattle.passes.proofs.Kinded.{closes_listed}
 use Rattle.acts.specs.View.{switches_of}
 use Rattle.plan.specs.Placing.{place_of}
 use Rattle.plan.proofs.Acted.{acted_late}
 use Rattle.plan.proofs.Leaving.{children_fewer, later_fewer}
-use Rattle.bindings.specs.Store.{binds}
-use Rattle.bindings.specs.Filed.{Filed, behind}
-use Rattle.collect.proofs.Meeting.{filed_as}
-use Rattle.collect.proofs.Siblings.{collects_at, walking_at, walked, walked_filed, passed-filed, row-filed, low_row, here-room, walks_on, passed-leaf, passed-collects, passed-kept, row-meets-it, children-collect, row-finishes, row_kept}
-use Prim.Native.Nat.{ℕ, ◌+◌, ◌-◌}
+use Rattle.collect.proofs.Meeting.{filed_now, filed_at}
+use Rattle.collect.proofs.Siblings.{collects_at, walking_at, walked, filed_finished, low_row, here-room, walks_on, passed-leaf, passed-collects, passed-kept, row-meets-it, children-collect, row-finishes, row_kept}
+use Prim.Native.Nat.{◌+◌, ◌-◌}
 use Rattle.collect.proofs.+collect_rows.Goals as goal
 
 pub collect-loop-i-init : goal.collect-loop-i-init
@@ -58,7 +58,7 @@ collect-loop-i-preserved t c =
     let row = c.collect_row.ensures in
     let W = c.loop-i.invariant in (
       walking_at (sym row.cap_value)
-          (walks_on c.requires.ranged.nested W.0 c.loop-i-test.true (collects_at (sym W.1.0) c.requires.collects) c.end_at-stop.ensures.0 row.kept row.filed_2),
+          (walks_on c.requires.ranged.nested W.0 c.loop-i-test.true (collects_at (sym W.1.0) c.requires.collects) c.end_at-stop.ensures.0 row.kept (filed_at _ _ row.cap_value row.filed_2)),
       (row.cap_value ∙ W.1.0, row.same_reference ∙ W.1.1),
     )
 
@@ -69,7 +69,7 @@ collect-returns t c =
       same_reference = c.loop-i.invariant.1.1;
       cap_value = c.loop-i.invariant.1.0;
       kept = walked W c.loop-i-test.false;
-      filed_2 = walked_filed W c.loop-i-test.false;
+      filed_2 = c.loop-i.invariant.0.filed;
     }
 
 pub collect_row-overflow_add-from : goal.collect_row-overflow_add-from
@@ -89,9 +89,7 @@ collect_row-returns-then-stop-from t c =
       kept = passed-leaf (names_of c.args.names.now.pairs.now c.args.names.now.text.now)
           (switches_of c.args.switches) c.requires.row_collects c.kind_at-kind.ensures.0 c.attr_at.ensures.0
           (c.stays.ensures c.if-stays.true) refl c.if-stop-from.true;
-      filed_2 = filed_as c.requires.filed (passed-leaf (names_of c.args.names.now.pairs.now c.args.names.now.text.now)
-          (switches_of c.args.switches) c.requires.row_collects c.kind_at-kind.ensures.0 c.attr_at.ensures.0
-          (c.stays.ensures c.if-stays.true) refl c.if-stop-from.true).list;
+      filed_2 = c.requires.filed;
     }
 
 pub collect_row-collect-requires : goal.collect_row-collect-requires
@@ -123,9 +121,7 @@ collect_row-returns-then-stays t c =
       kept = passed-kept (names_of c.args.names.now.pairs.now c.args.names.now.text.now)
           (switches_of c.args.switches) c.requires.row_collects c.kind_at-kind.ensures.0 c.attr_at.ensures.0
           (c.stays.ensures c.if-stays.true) c.inside-along.ensures c.collect.ensures.kept;
-      filed_2 = passed-filed (names_of c.args.names.now.pairs.now c.args.names.now.text.now)
-          (switches_of c.args.switches) c.requires.row_collects c.kind_at-kind.ensures.0 c.attr_at.ensures.0
-          (c.stays.ensures c.if-stays.true) c.inside-along.ensures c.collect.ensures.filed_2;
+      filed_2 = c.collect.ensures.filed_2;
     }
 
 pub collect_row-invariant_of-node : goal.collect_row-invariant_of-node
@@ -160,8 +156,7 @@ collect_row-collect-requires-2 t c =
           children-collect
               (names_of c.args.names.now.pairs.now c.args.names.now.text.now)
               (switches_of c.args.switches) c.requires.row_collects d c.act_at-act.ensures.small c.meet.ensures.kept c.requires.row_collects.stops c.meet.ensures.cap_value,
-          subst (λ (m : ℕ). Filed c.args.names.now.pairs.now c.args.names.now.text.now (behind m c.meet.new.maker.made.now) m (binds c.meet.new.maker.made.now m c.meet.new.maker.count)) (sym c.meet.ensures.cap_value)
-              (filed_as c.meet.ensures.filed_2 (sym c.meet.ensures.kept.list)),
+          c.meet.ensures.filed_2,
         ),
       ),
     )
@@ -173,7 +168,7 @@ collect_row-finish-requires t c =
     (words c.args.rows.now) c.args.i) c.is_late-late.ensures c.act_at-act.ensures.takes in
     row-finishes (names_of c.args.names.now.pairs.now c.args.names.now.text.now)
     (switches_of c.args.switches) c.requires.row_collects d c.act_at-act.ensures.small c.meet.ensures.kept c.requires.row_collects.stops c.meet.ensures.cap_value
-    c.collect-2.ensures.kept c.collect-2.ensures.cap_value c.kind_at-kind.ensures.0 c.closes-closing.ensures c.slot.ensures (ap (λ
+    c.collect-2.ensures.kept c.collect-2.ensures.cap_value c.kind_at-kind.ensures.0 (c.closes-closing.ensures ∙ ap (closes _) c.from.ensures ∙ closes_listed _ _) c.slot.ensures (ap (λ
     (s : Spot). s.ctx) c.spot-spot.ensures.result_value) c.this_at-frame.ensures.value
 
 pub collect_row-returns : goal.collect_row-returns
@@ -186,10 +181,7 @@ collect_row-returns t c =
       cap_value = c.finish.ensures.cap_value ∙ c.collect-2.ensures.cap_value ∙ c.meet.ensures.cap_value;
       kept = row_kept (names_of c.args.names.now.pairs.now c.args.names.now.text.now)
           (switches_of c.args.switches) c.requires.row_collects d c.act_at-act.ensures.small c.meet.ensures.kept c.requires.row_collects.stops c.meet.ensures.cap_value
-          c.collect-2.ensures.kept c.collect-2.ensures.cap_value c.kind_at-kind.ensures.0 c.closes-closing.ensures c.slot.ensures (ap (λ
+          c.collect-2.ensures.kept c.collect-2.ensures.cap_value c.kind_at-kind.ensures.0 (c.closes-closing.ensures ∙ ap (closes _) c.from.ensures ∙ closes_listed _ _) c.slot.ensures (ap (λ
           (s : Spot). s.ctx) c.spot-spot.ensures.result_value) c.this_at-frame.ensures.value c.finish.ensures.kept;
-      filed_2 = row-filed (names_of c.args.names.now.pairs.now c.args.names.now.text.now)
-          (switches_of c.args.switches) c.requires.row_collects d c.act_at-act.ensures.small c.meet.ensures.kept c.requires.row_collects.stops c.meet.ensures.cap_value
-          c.collect-2.ensures.kept c.collect-2.ensures.cap_value c.kind_at-kind.ensures.0 c.closes-closing.ensures c.slot.ensures (ap (λ
-          (s : Spot). s.ctx) c.spot-spot.ensures.result_value) c.this_at-frame.ensures.value _ c.collect-2.ensures.filed_2 c.finish.ensures.made_unchanged;
+      filed_2 = filed_now (filed_finished _ _ _ _ _ c.finish.ensures.cap_value c.collect-2.ensures.filed_2 c.finish.ensures.made_unchanged) c.finish.ensures.kept c.finish.ensures.cap_value;
     }

@@ -1,10 +1,8 @@
 -- `collect::finish` meets its contract. Assumes nothing.
-use mathlib.Core.Path.{◌≡◌, ap, subst, ◌∙◌}
-use Prim.Native.Nat.{ℕ}
+use mathlib.Core.Path.{ap, ◌∙◌}
 use mathlib.Core.Bool.{not}
 use Rattle.passes.specs.View.{op_of}
 use Rattle.acts.specs.View.{context_of}
-use Rattle.bindings.specs.Filed.{behind}
 use Rattle.collect.proofs.Finishing.{leave-asks, stays_open, close-asks, is-closed}
 use Rattle.collect.proofs.finish.Goals as goal
 
@@ -33,5 +31,5 @@ returns-then-closing c =
       cap_value = c.close.ensures.cap_value ∙ c.leave.ensures.cap_value;
       kept = is-closed c.args.maker.now.made.now c.args.maker.now.cap c.args.maker.now.count (context_of c.args.context)
           (op_of c.args.op) c.args.closing c.args.frame c.requires _ _ c.leave.ensures.kept (ap not c.if-closing.true) c.leave.ensures.cap_value _ _ c.close.ensures.kept;
-      made_unchanged = subst (λ (m : ℕ). behind m c.close.new.self.made.now ≡ behind m c.leave.new.maker.made.now) c.leave.ensures.cap_value c.close.ensures.made_unchanged ∙ c.leave.ensures.made_unchanged;
+      made_unchanged = c.close.ensures.made_unchanged ∙ c.leave.ensures.made_unchanged;
     }

@@ -9,7 +9,6 @@ use Rattle.bindings.specs.Store.{binds}
 use Rattle.passes.specs.View.{op_of}
 use Rattle.acts.specs.View.{context_of}
 use Rattle.collect.proofs.Meeting.{leave_none, leave-some}
-use native.Mathlib.Omega.{arith}
 use Rattle.collect.proofs.leave.Goals as goal
 
 pub returns-else-is_called-context : goal.returns-else-is_called-context

@@ -9,7 +9,8 @@ use Rattle.steps.specs.Context.{made_c}
 use Rattle.bindings.specs.Post.{Kept}
 use Rattle.bindings.specs.Filed.{Filed, behind}
 use Rattle.acts.specs.View.{switches_of}
-use Rattle.collect.proofs.Starting.{no_binds, program_collects, program_kept, program_filed}
+use Rattle.collect.proofs.Meeting.{filed_then}
+use Rattle.collect.proofs.Starting.{no_binds, program_collects, program_kept}
 use Rattle.collect.proofs.make_bindings.Goals as goal
 
 pub collect-requires : goal.collect-requires
@@ -23,7 +24,7 @@ pub returns : goal.returns
 returns c =
     let whole = made_c (names_of c.args.names.now.pairs.now c.args.names.now.text.now) (switches_of c.args.switches) (table c.args.rows.now) in
     let kept = program_kept (names_of c.args.names.now.pairs.now c.args.names.now.text.now) (switches_of c.args.switches) c.args.rows.now c.requires.starts c.program-start.ensures c.collect.ensures.kept in
-    let filed = program_filed (names_of c.args.names.now.pairs.now c.args.names.now.text.now) (switches_of c.args.switches) c.args.rows.now c.requires.starts c.program-start.ensures c.collect.ensures.filed_2 in
+    let filed = filed_then c.collect.ensures.filed_2 kept c.collect.ensures.cap_value in
     record {
       kept = subst (λ (l : List ℕ). Kept l c.args.cap whole c.collect.new.maker.count) (search rules) kept;
       filed_2 = subst (λ (l : List ℕ). Filed c.args.names.now.pairs.now c.args.names.now.text.now (behind c.args.cap l) c.args.cap whole) (search rules) filed;

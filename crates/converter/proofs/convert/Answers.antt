@@ -23,12 +23,12 @@ pub returns-in_err-refusal : goal.returns-in_err-refusal
 returns-in_err-refusal c =
     let q = checked_as c.args.tablet _ _ _ _ _ _ c.limits_for-limits.ensures.0 c.limits_for-limits.ensures.1 c.in_ok-check.ensures in
     promised _ _ _ _ _ _ _ _ _ _ _ _ _
-    (turned_as _ _ _ _ _ _ _ _ (sym q) _ (c.in_err-refusal.ensures (switches_of c.args.switches) c.new-converter.ensures.0) c.from_residual-in_err-refusal.result c.from_residual-in_err-refusal.ensures.1)
+    (turned_as _ _ _ _ _ _ _ _ (sym q) _ (c.in_err-refusal.ensures (switches_of c.args.switches) c.converter.ensures.mode) c.from_residual-in_err-refusal.result c.from_residual-in_err-refusal.ensures.1)
 
 pub invariant_of-table : goal.invariant_of-table
 invariant_of-table c =
     let q = checked_as c.args.tablet _ _ _ _ _ _ c.limits_for-limits.ensures.0 c.limits_for-limits.ensures.1 c.in_ok-check.ensures in
-    record { accepted = accepted_either c.args.tablet _ _ _ _ (accepted _ _ _ _ _ _ (sym q) (sym (c.in_ok-refusal.ensures (switches_of c.args.switches) c.new-converter.ensures.0))) }
+    record { accepted = accepted_either c.args.tablet _ _ _ _ (accepted _ _ _ _ _ _ (sym q) (sym (c.in_ok-refusal.ensures (switches_of c.args.switches) c.converter.ensures.mode))) }
 
 pub returns : goal.returns
 returns c =

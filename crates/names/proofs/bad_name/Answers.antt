@@ -11,17 +11,17 @@ use Rattle.names.proofs.bad_name.Goals as goal
 
 pub returns-then-text-end : goal.returns-then-text-end
 unfolding bad_name
-returns-then-text-end c = rw (← c.cell-start.ensures.0, ← c.cell-n.ensures.0, lt-ltb _ _ c.if-text-end.true)
+returns-then-text-end c = rw (← c.pair_at-start.ensures.start.0, ← c.pair_at-start.ensures.len.0, lt-ltb _ _ c.if-text-end.true)
 
 pub returns-then-n : goal.returns-then-n
 unfolding bad_name
-returns-then-n c = rw (← c.cell-start.ensures.0, ← c.cell-n.ensures.0, le-ltb _ _ c.if-text-end.false, c.if-n.true)
+returns-then-n c = rw (← c.pair_at-start.ensures.start.0, ← c.pair_at-start.ensures.len.0, le-ltb _ _ c.if-text-end.false, c.if-n.true)
 
 pub returns : goal.returns
 unfolding bad_name
 returns c =
-    let start = c.cell-start.result in
-    let long = c.cell-n.result in
+    let start = c.pair_at-start.result.0 in
+    let long = c.pair_at-start.result.1 in
     let cut : start + long - start ≡ long = omega arith in
-    rw (← c.cell-start.ensures.0, ← c.cell-n.ensures.0, le-ltb _ _ c.if-text-end.false, c.if-n.false)
+    rw (← c.pair_at-start.ensures.start.0, ← c.pair_at-start.ensures.len.0, le-ltb _ _ c.if-text-end.false, c.if-n.false)
     (ap not (c.is_utf8.ensures ∙ ap (λ (n : ℕ). utf8 (take n (drop start c.args.text.now))) cut))

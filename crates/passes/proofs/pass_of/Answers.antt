@@ -1,10 +1,9 @@
 -- `passes::pass_of` meets its contract. Assumes nothing.
 use mathlib.Core.Path.{◌≡◌, refl}
-use mathlib.Core.Bool.{Bool, true, false, cond, not, ◌&&◌, false≢true}
+use mathlib.Core.Bool.{Bool, true, false, cond, ◌&&◌, false≢true}
 use Prim.Native.Nat.{ℕ}
 use lib.Dec.{eqb}
-use Rattle.grammar.specs.Codes.{listed}
-use Rattle.grammar.proofs.Listed.{test_listed}
+use Rattle.grammar.specs.Codes.{kind_number}
 use Rattle.steps.specs.Slots.{late_body, wrapped}
 use Rattle.steps.specs.Acts.{Op, Op.row, Op.drop, Op.name, Op.call}
 use Rattle.steps.specs.Bindings.{closes}
@@ -72,22 +71,12 @@ anew-copy : (sl k m : ℕ) → eqb sl late_body ≡ false → anew sl k m ≡ fa
 unfolding anew
 anew-copy sl k m e = rw e (nor (closes sl k))
 
--- a row's word may be none of the list
-
-met_listed : (sc k : ℕ) (sup : Bool) → met_of sc (listed k) sup ≡ met_of sc k sup
-unfolding met_of
-met_listed sc k sup = rw (test_listed k 14 refl)
-
-direct_listed : (sc k : ℕ) (called : Bool) → direct_of sc (listed k) called ≡ direct_of sc k called
-unfolding direct_of
-direct_listed sc k called = rw (test_listed k 1 refl)
-
 pub returns-then-eq : goal.returns-then-eq
 unfolding pass_of
 returns-then-eq c =
     let t = both _ _ c.if-eq.true in
     let s : state_number c.args.state ≡ copy = eqb-eq _ _ (state_told _ Copy c.eq.ensures t.0) in
-    let a = anew-copy (slot_number c.args.slot) c.args.kind c.args.m (slot_told _ LateBody c.eq-2.ensures (not-true _ t.1)) in
+    let a = anew-copy (slot_number c.args.slot) (kind_number c.args.kind) c.args.m (slot_told _ LateBody c.eq-2.ensures (not-true _ t.1)) in
     record {
       met = rw (s, own-copy, met-copy);
       first = rw (s, own-copy, direct-copy);
@@ -100,10 +89,10 @@ pub returns-then-anew : goal.returns-then-anew
 unfolding pass_of
 returns-then-anew c =
     record {
-      met = rw (c.met_of-met.ensures, c.from-row.ensures, met_listed, c.own-here.ensures);
-      first = rw (c.direct_of-first.ensures, c.from-row.ensures, direct_listed, c.own-here.ensures);
+      met = rw (c.assigned_of-assigned.ensures.met, c.own-here.ensures);
+      first = rw (c.assigned_of-assigned.ensures.first, c.own-here.ensures);
       scan = rw (← c.anew.ensures, c.if-anew.true);
-      next = rw (c.next_of-next.ensures, c.direct_of-first.ensures, c.from-row.ensures, direct_listed, c.own-here.ensures);
+      next = rw (c.next_of-next.ensures, c.assigned_of-assigned.ensures.first, c.own-here.ensures);
       bind = rw (← c.anew.ensures, c.if-anew.true);
     }
 
@@ -111,9 +100,9 @@ pub returns : goal.returns
 unfolding pass_of
 returns c =
     record {
-      met = rw (c.met_of-met.ensures, c.from-row.ensures, met_listed, c.own-here.ensures);
-      first = rw (c.direct_of-first.ensures, c.from-row.ensures, direct_listed, c.own-here.ensures);
-      scan = rw (← c.anew.ensures, c.if-anew.false, c.scan_of.ensures, c.met_of-met.ensures, c.direct_of-first.ensures, c.from-row.ensures, met_listed, direct_listed, c.own-here.ensures);
-      next = rw (c.next_of-next.ensures, c.direct_of-first.ensures, c.from-row.ensures, direct_listed, c.own-here.ensures);
+      met = rw (c.assigned_of-assigned.ensures.met, c.own-here.ensures);
+      first = rw (c.assigned_of-assigned.ensures.first, c.own-here.ensures);
+      scan = rw (← c.anew.ensures, c.if-anew.false, c.scan_of.ensures, c.assigned_of-assigned.ensures.met, c.assigned_of-assigned.ensures.first, c.own-here.ensures);
+      next = rw (c.next_of-next.ensures, c.assigned_of-assigned.ensures.first, c.own-here.ensures);
       bind = rw (← c.anew.ensures, c.if-anew.false);
     }

@@ -7,7 +7,6 @@ use lib.ListN.{length}
 use Rattle.rows.specs.Sound.{GoodSizes}
 use Rattle.rows.specs.Refusals.{sizes_ok, limited}
 use Rattle.rows.proofs.Ordering.{SizesOk, is-checked, is_malformed, good-sizes, deep-at, ends-within}
-use native.Mathlib.Omega.{arith}
 use Rattle.rows.proofs.check.Goals as goal
 
 -- what the test of the sizes says, of the rows' limit in force
@@ -36,11 +35,11 @@ returns-in-Some-first_fault c =
     let named = sym c.first_bad_name.ensures ∙ c.in_default.is in
     is-checked _ _ _ _ _ _ _ _ _ sizes named (sym c.first_fault.ensures ∙ c.in-Some-first_fault.is) refl refl
 
-pub first_deep-requires-clause-n_bound : goal.first_deep-requires-clause-n_bound
-first_deep-requires-clause-n_bound c =
+pub first_deep-requires : goal.first_deep-requires
+first_deep-requires c =
     let a = c.args in
     let g = good a.limits.rows a.rows.now a.names.now a.text.now c.capped-most.ensures.0 c.sizes_ok.ensures c.if-not-sizes_ok.false in
-    (omega arith, (omega arith, ends-within _ _ _ g.some (sym c.first_fault.ensures ∙ c.in_default-first_fault.is)))
+    ends-within _ _ _ g.some (sym c.first_fault.ensures ∙ c.in_default-first_fault.is)
 
 pub returns-in-Some-first_deep : goal.returns-in-Some-first_deep
 returns-in-Some-first_deep c =

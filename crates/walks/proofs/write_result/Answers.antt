@@ -3,18 +3,15 @@ use Rattle.steps.specs.Outcome.{names_of}
 use Rattle.forest.specs.Forest.{table}
 use Rattle.acts.specs.View.{switches_of}
 use Rattle.walks.proofs.Quiet.{quiet-steps, none_made}
-use Rattle.walks.proofs.Readying.{given-rows, given-range, bindings_few}
+use Rattle.walks.proofs.Readying.{given-range, bindings_few}
 use Rattle.walks.proofs.write_result.Goals as goal
 
 pub make_bindings-count-requires : goal.make_bindings-count-requires
 make_bindings-count-requires c = record {
-  ranged = given-range _ _ _ _ c.requires.accepted;
-  starts = record { store = c.requires.empty; cap_low = c.requires.low; rows_low = c.requires.fits; room = bindings_few _ _ _ _ _ _ c.requires };
+  ranged = given-range _ _ _ _ c.args.table.now.accepted;
+  starts = record { store = c.requires.empty; cap_low = c.requires.low; rows_low = c.requires.fits; room = bindings_few _ _ _ _ _ _ c.args.table.now.accepted c.requires };
   filed = c.requires.unfiled;
 }
-
-pub keeps_arrows-requires : goal.keeps_arrows-requires
-keeps_arrows-requires c = given-rows _ _ _ _ c.requires.accepted
 
 pub unchanged-requires : goal.unchanged-requires
 unchanged-requires c =
@@ -30,7 +27,7 @@ invariant_of-bindings c = record {
 
 pub write_walked-requires : goal.write_walked-requires
 write_walked-requires c = record {
-  accepted = c.requires.accepted;
+  accepted = c.args.table.now.accepted;
   on = c.requires.on;
   kept = c.make_bindings-count.ensures.kept;
   filed = c.make_bindings-count.ensures.filed_2;

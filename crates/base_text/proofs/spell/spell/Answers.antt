@@ -34,7 +34,7 @@ slice_bounds-spell_property-end c =
     let e : property_ok a.names.now a.text.now (Some k) ≡ true = rw c.in-Some.is at c.requires.1 in
     let n : NameAt a.names.now a.text.now k = name-at a.names.now a.text.now k e in
     let g : GoodName a.names.now a.text.now k = good-name a.names.now a.text.now k n.good in
-    let h : c.cell-start.result + c.cell.result ≤ length a.text.now = rw (c.cell-start.ensures.0, c.cell.ensures.0) g.within in
+    let h : c.pair_at-start.result.0 + c.pair_at-start.result.1 ≤ length a.text.now = rw (c.pair_at-start.ensures.start.0, c.pair_at-start.ensures.len.0) g.within in
     search rules
 
 pub spell_property-requires : goal.spell_property-requires
@@ -43,7 +43,7 @@ spell_property-requires c =
     let k = c.in-Some.k in
     let e : property_ok a.names.now a.text.now (Some k) ≡ true = rw c.in-Some.is at c.requires.1 in
     let g : Good (bytes_of a.names.now a.text.now k) = good-bytes a.names.now a.text.now k (name-at a.names.now a.text.now k e) in
-    let q = part a.names.now a.text.now k _ _ (name-at a.names.now a.text.now k e).some c.cell-start.ensures.0 c.cell.ensures.0 in
+    let q = part a.names.now a.text.now k _ _ (name-at a.names.now a.text.now k e).some c.pair_at-start.ensures.start.0 c.pair_at-start.ensures.len.0 in
     (rw c.base_of-base.ensures (base_short (use_number a.binding.usage)), rw q g.some, rw q g.few)
 
 pub returns-in_default : goal.returns-in_default
@@ -54,5 +54,5 @@ returns c =
     let a = c.args in
     let k = c.in-Some.k in
     let e : property_ok a.names.now a.text.now (Some k) ≡ true = rw c.in-Some.is at c.requires.1 in
-    let q = part a.names.now a.text.now k _ _ (name-at a.names.now a.text.now k e).some c.cell-start.ensures.0 c.cell.ensures.0 in
+    let q = part a.names.now a.text.now k _ _ (name-at a.names.now a.text.now k e).some c.pair_at-start.ensures.start.0 c.pair_at-start.ensures.len.0 in
     named _ _ _ _ _ _ k _ _ c.in-Some.is (rw (q, c.base_of-base.ensures) at c.spell_property.ensures)

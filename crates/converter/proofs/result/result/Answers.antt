@@ -15,5 +15,5 @@ unchanged-requires c =
 pub over-requires : goal.over-requires
 over-requires c = (
   (flags _ _ _ _ c.is_enabled-enabled.ensures c.is_async_only-only.ensures c.if-not-enabled-only.false),
-  (let g = (given-rows _ _ _ _ c.args.table.now.accepted).few in omega arith, omega arith),
+  (let g = (given-rows _ _ _ _ c.args.table.now.accepted).few in omega arith),
 )

@@ -6,38 +6,38 @@ use Rattle.emit.proofs.Lists.{Turning}
 use Prim.Native.Nat.{◌+◌, ◌*◌, ◌-◌}
 use Rattle.emit.proofs.walkers.+walk_rows.Given as goal
 
-abbrev pub decreases-around : goal.decreases-around
-decreases-around l = 8 * (l.inner.end - l.inner.from) + 1
-
-abbrev pub decreases-class : goal.decreases-class
-decreases-class l = 8 * (l.inner.end - l.inner.from) + 2
-
-abbrev pub decreases-expression : goal.decreases-expression
-decreases-expression l = 8 * (l.plan.inner.end - l.plan.inner.from) + 5
-
-abbrev pub decreases-function : goal.decreases-function
-decreases-function l = 8 * (l.inner.end - l.inner.from) + 1
-
-abbrev pub decreases-kept : goal.decreases-kept
-decreases-kept l = 8 * (l.inner.end - l.inner.from) + 3
-
 abbrev pub decreases-list : goal.decreases-list
-decreases-list l = 8 * (l.siblings.end - l.siblings.from)
+decreases-list l = 8 * (l.inner.siblings.end - l.inner.siblings.from)
 
-abbrev pub decreases-sequence : goal.decreases-sequence
-decreases-sequence l = 8 * (l.inner.end - l.inner.from) + 2
+abbrev pub decreases-around : goal.decreases-around
+decreases-around l = 8 * (l.inner.siblings.end - l.inner.siblings.from) + 1
 
 abbrev pub decreases-statement : goal.decreases-statement
-decreases-statement l = 8 * (l.plan.inner.end - l.plan.inner.from) + 3
+decreases-statement l = 8 * (l.inner.siblings.end - l.inner.siblings.from) + 2
 
-abbrev pub decreases-transform_call_expression_for_super : goal.decreases-transform_call_expression_for_super
-decreases-transform_call_expression_for_super l = 8 * (l.inner.end - l.inner.from) + 2
+abbrev pub decreases-function : goal.decreases-function
+decreases-function l = 8 * (l.inner.siblings.end - l.inner.siblings.from) + 1
+
+abbrev pub decreases-kept : goal.decreases-kept
+decreases-kept l = 8 * (l.inner.siblings.end - l.inner.siblings.from) + 3
+
+abbrev pub decreases-class : goal.decreases-class
+decreases-class l = 8 * (l.inner.siblings.end - l.inner.siblings.from) + 2
+
+abbrev pub decreases-sequence : goal.decreases-sequence
+decreases-sequence l = 8 * (l.inner.siblings.end - l.inner.siblings.from) + 2
 
 abbrev pub decreases-transform_member_expression_for_super : goal.decreases-transform_member_expression_for_super
-decreases-transform_member_expression_for_super l = 8 * (l.inner.end - l.inner.from) + 1
+decreases-transform_member_expression_for_super l = 8 * (l.inner.siblings.end - l.inner.siblings.from) + 1
+
+abbrev pub decreases-transform_call_expression_for_super : goal.decreases-transform_call_expression_for_super
+decreases-transform_call_expression_for_super l = 8 * (l.inner.siblings.end - l.inner.siblings.from) + 2
 
 abbrev pub decreases-undressed : goal.decreases-undressed
 decreases-undressed l = 8 * (l.plan.inner.end - l.plan.inner.from) + 4
+
+abbrev pub decreases-expression : goal.decreases-expression
+decreases-expression l = 8 * (l.plan.inner.end - l.plan.inner.from) + 5
 
 abbrev pub invariant-list-loop-i : goal.invariant-list-loop-i
 invariant-list-loop-i l =

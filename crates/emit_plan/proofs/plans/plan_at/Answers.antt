@@ -12,7 +12,9 @@ use Rattle.steps.specs.Context.{late_c, act_c}
 use Rattle.steps.specs.Outcome.{names_of}
 use Rattle.bindings.specs.Store.{this_at}
 use Rattle.below.specs.Below.{children}
-use Rattle.passes.specs.View.{state_number}
+use Rattle.steps.specs.Fused.{pass_of}
+use Rattle.passes.specs.View.{slot_number, state_number, op_of, Says}
+use Rattle.passes.proofs.Kinded.{pass_listed}
 use Rattle.acts.specs.View.{switches_of}
 use Rattle.acts.specs.declared.act.Act.{Act}
 use Rattle.plan.specs.declared.place.Place.{Place}
@@ -60,11 +62,13 @@ returns c =
     let within : c.args.i < v.bindings.cap = (let r = c.requires.at.row in let h = c.requires.holds.rows_low in omega arith) in
     let both = decided v c.args.q c.args.i c.act_at-act.result within c.requires.frames_below.0 c.act_at-act.ensures.small c.is_late-late.ensures c.act_at-act.ensures.takes in
     let all = plan_is v.rows.now v.names.pairs.now v.names.text.now v c.args.bind (state_number c.args.state) c.args.q c.args.i c.slot-slot.result
-    c.words_at-words.result.kind c.words_at-words.result.attr c.words_at-words.result.name c.end_at-end.result c.this_of-m.result c.look-below.result.first_super
-    c.look-below.result.super_call c.act_at-act.result c.pass_of-pass.result c.requires.at v.names.given c.requires.holds c.requires.frames_below.0
-    c.requires.frames_below.1 c.slot-slot.ensures c.words_at-words.ensures.kind c.words_at-words.ensures.attr c.words_at-words.ensures.name
+    c.head_at-head.result.kind c.head_at-head.result.attr c.head_at-head.result.name c.end_at-end.result c.this_of-m.result c.over_super-sup.result
+    c.super_call-called.result c.act_at-act.result c.pass_of-pass.result c.requires.at v.names.given c.requires.holds c.requires.frames_below.0
+    c.requires.frames_below.1 c.slot-slot.ensures c.head_at-head.ensures.kind c.head_at-head.ensures.attr c.head_at-head.ensures.name
     c.end_at-end.ensures.0 both.0 c.act_at-act.ensures.small both.1.more.this (c.this_of-m.ensures ∙ ap (this_at v.bindings.made.now
-    v.bindings.cap) c.this_at.ensures.value) c.look-below.ensures.supered c.look-below.ensures.called c.pass_of-pass.ensures in
+    v.bindings.cap) c.this_at.ensures.value) c.over_super-sup.ensures c.super_call-called.ensures
+    (subst (Says c.pass_of-pass.result) (ap (λ (k : ℕ). pass_of c.args.bind (state_number c.args.state) (slot_number c.slot-slot.result) k c.this_of-m.result c.over_super-sup.result
+    c.super_call-called.result (op_of c.act_at-act.result.op)) c.from-kind.ensures ∙ pass_listed _ _ _ _ _ _ _ _) c.pass_of-pass.ensures) in
     record {
       planned = all.0;
       row_pre = all.1;

@@ -7,7 +7,8 @@ use lib.Dec.{ltb}
 use lib.ListN.{get_or}
 use Rattle.forest.specs.Told.{told_by, to_all, deeper, depth_at, first_deep}
 use Rattle.names.proofs.Seeking.{seek-start, seek-next, seek_found, seek-none}
-use Rattle.forest.proofs.Telling.{told_fresh, told-on, told-all}
+use Rattle.names.specs.Words.{words}
+use Rattle.forest.proofs.Telling.{deep-le, told_fresh, told-on, told-all}
 use native.Mathlib.Omega.{arith}
 use Rattle.forest.proofs.depth.deep_in.Goals as goal
 
@@ -17,7 +18,7 @@ unfolding depth_at
 is-depth ws R i h = sym h
 
 pub loop-i-init : goal.loop-i-init
-loop-i-init c = (seek-start _ _ _, (refl, told_fresh _ _ c.args.depth.now c.requires.most_bound.1.1))
+loop-i-init c = (seek-start _ _ _, (refl, told_fresh _ _ c.args.depth.now c.requires.fresh.1))
 
 pub shape_of-depth-then-most-d : goal.shape_of-depth-then-most-d
 shape_of-depth-then-most-d c = c.loop-i.invariant.1.0
@@ -26,16 +27,20 @@ pub returns-then-most-d : goal.returns-then-most-d
 unfolding first_deep
 returns-then-most-d c = seek_found _ _ _ _ c.loop-i.invariant.0 (omega arith) (ap (ltb c.args.most) (is-depth _ c.loop-i.depth _ (c.loop-i.invariant.1.1 c.loop-i.i)) ∙ lt-ltb _ _ c.if-most-d.true)
 
+-- a row is no deeper than its number
+pub overflow_add-below : goal.overflow_add-below
+overflow_add-below c = omega (arith, deep-le (words c.args.rows.now.bytes.now) c.loop-i.i c.loop-i.i, c.loop-i.invariant.1.1 c.loop-i.i)
+
 pub tell-requires : goal.tell-requires
 tell-requires c =
-    let inside : c.cell-e.result ≤ c.args.n = subst (λ (x : ℕ). x ≤ c.args.n) (sym c.cell-e.ensures.0) (c.requires.n_bound.1.1 c.loop-i.i (omega arith)) in
+    let inside : c.end_at-e.result ≤ c.args.rows.now.count = subst (λ (x : ℕ). x ≤ c.args.rows.now.count) (sym c.end_at-e.ensures.0) (c.requires.ends c.loop-i.i (omega arith)) in
     omega arith
 
 pub loop-i-preserved : goal.loop-i-preserved
 loop-i-preserved c =
     let d = get_or c.loop-i.depth c.loop-i.i 0 in (
       seek-next _ _ _ _ c.loop-i.invariant.0 (omega arith) (ap (ltb c.args.most) (is-depth _ c.loop-i.depth _ (c.loop-i.invariant.1.1 c.loop-i.i)) ∙ le-ltb _ _ c.if-most-d.false),
-      (omega arith, told-on _ deeper 0 c.loop-i.i d _ (to_all (d + 1)) c.loop-i.depth c.tell.new.told c.loop-i.invariant.1.1 refl c.cell-e.ensures.0 refl (λ j. c.tell.ensures j ∙ told-all (d + 1) 0 _ j _)),
+      (omega arith, told-on _ deeper 0 c.loop-i.i d _ (to_all (d + 1)) c.loop-i.depth c.tell.new.told c.loop-i.invariant.1.1 refl c.end_at-e.ensures.0 refl (λ j. c.tell.ensures.each 0 j ∙ told-all (d + 1) 0 _ j _)),
     )
 
 pub shape_of-depth : goal.shape_of-depth

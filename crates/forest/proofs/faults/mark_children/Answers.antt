@@ -1,50 +1,48 @@
 -- `forest::faults::mark_children` meets its contract. Assumes nothing.
-use Prim.Native.Nat.{◌+◌}
-use mathlib.Core.Path.{◌≡◌, refl, ◌∙◌}
-use lib.ListN.{length}
+use mathlib.Core.Path.{sym, ap, ◌∙◌}
+use mathlib.Core.List.{List}
+use Prim.Native.Nat.{ℕ, ◌<◌}
+use native.Mathlib.Omega.{arith}
+use lib.ListN.{get_or, length}
 use Rattle.names.specs.Words.{words}
 use Rattle.grammar.specs.Codes.{kind_number}
-use Rattle.grammar.specs.Grammar.{place_of}
-use Rattle.forest.specs.Told.{says}
-use Rattle.std.proofs.Common.{rules}
-use Rattle.grammar.proofs.Places.{later_all}
-use Rattle.forest.proofs.Telling.{tell_start, tell-child, tell-fault, tell_done, goes-on}
-use Rattle.forest.proofs.Visits.{said_good, said_bad}
-use native.Mathlib.Omega.{arith}
+use Rattle.forest.specs.Told.{told_in, says}
+use Rattle.forest.proofs.Children.{kids_done}
+use Rattle.forest.proofs.Marks.{marked_none, marked_some, marked-low}
 use Rattle.forest.proofs.faults.mark_children.Goals as goal
+use Rattle.forest.proofs.faults.mark_children.Goals.{In-Some}
 
 pub returns-then-e-c0 : goal.returns-then-e-c0
+unfolding told_in
 returns-then-e-c0 c =
-    let ws = words c.args.s.now in
-    let say = says ws (kind_number c.args.kind) c.args.a c.args.e in
-    let marks = c.args.marks.now in
-    let t = tell_done ws say c.args.e (length marks) c.args.c0 marks marks c.args.c0 0 (tell_start ws say c.args.e (length marks) c.args.c0 marks refl) c.if-e-c0.true in
-    (t.many, t.each)
+    let k = kids_done (words c.args.s.now) c.args.e c.args.c0 c.args.e c.if-e-c0.true in
+    (sym (ap length k), λ j. sym (ap (λ (l : List ℕ). told_in (says (words c.args.s.now) (kind_number c.args.kind) c.args.a c.args.e) 0 l j (get_or c.args.marks.now j 0)) k))
 
-pub loop-row-init : goal.loop-row-init
-loop-row-init c = (tell_start _ _ _ _ _ _ refl, (omega arith, (c.number-place.ensures.0 ∙ c.place_of-2.ensures, (c.number-place.ensures.1, (refl, refl)))))
+-- the child at fault has a place, and is one of the rows
+low : (c : In-Some) → (get_or c.tell-told.new.told c.in-Some.row 0 < 16) × (c.in-Some.row < c.args.e)
+low c =
+    marked-low (words c.args.s.now) (kind_number c.args.kind) c.args.a c.args.e c.args.c0 _ _ c.args.marks.now c.tell-told.new.told (c.number-one.ensures.0 ∙ c.place_of.ensures) (c.number-more.ensures.0 ∙ c.place_of-2.ensures)
+    (omega (arith, c.tell-told.auto.told)) (c.tell-told.ensures.each 0) c.in-Some.row (sym c.in-Some.is ∙ c.tell-told.ensures.faulty)
 
-pub loop-row-preserved : goal.loop-row-preserved
-loop-row-preserved c =
-    let i = c.loop-row.invariant.1.1.1.1 in
-    let x = c.in-Some.ensures.next in
-    let place = c.loop-row.invariant.1.1.0 in
-    let next : c.number-later.result ≡ place_of (kind_number c.args.kind) c.args.a (c.loop-row.count + 1) = c.number-later.ensures.0 ∙ c.place_of.ensures ∙ later_all _ _ _ (λ e. omega arith) in
-    let told = said_good _ _ _ _ _ _ _ refl i.0 i.1 x place in (
-      tell-child _ _ _ _ _ _ _ c.loop-row.invariant.0 c.requires.1.1 refl i.0 i.1 x told,
-      (omega (arith, c.loop-row.invariant.1.0, goes-on _ _ _ _ _ x), (next, (c.number-later.ensures.1, (search rules, search rules)))),
-    )
+pub bounds-marks-row : goal.bounds-marks-row
+bounds-marks-row c = omega (arith, (low (goal.at.bounds-marks-row c).In-Some).1, c.tell-told.auto.told)
 
-pub returns-then-children-e : goal.returns-then-children-e
-returns-then-children-e c =
-    let i = c.loop-row.invariant.1.1.1.1 in
-    let x = c.in_default.ensures.next in
-    let fault = c.if-children-e.true in
-    let t = tell-fault _ _ _ _ _ _ _ c.loop-row.invariant.0 c.requires.1.1 refl i.0 i.1 x fault (said_bad _ _ _ _ _ _ _ refl i.0 i.1 x fault c.loop-row.invariant.1.1.0) in
-    (t.many, t.each)
+pub overflow_add-marks : goal.overflow_add-marks
+overflow_add-marks c = omega (arith, (low (goal.at.overflow_add-marks c).In-Some).0)
 
-pub returns : goal.returns
-returns c =
-    let x = c.in_default.ensures.next in
-    let t = tell_done _ _ _ _ _ _ _ _ _ c.loop-row.invariant.0 (omega (arith, x.stays, c.if-children-e.false)) in
-    (t.many, t.each)
+pub bounds-marks-row-in-Some : goal.bounds-marks-row-in-Some
+bounds-marks-row-in-Some c = omega (arith, (low (goal.at.bounds-marks-row-in-Some c).In-Some).1, c.tell-told.auto.told)
+
+pub returns-in-Some : goal.returns-in-Some
+returns-in-Some c = (
+  c.tell-told.ensures.count,
+  marked_some (words c.args.s.now) (kind_number c.args.kind) c.args.a c.args.e c.args.c0 _ _ c.args.marks.now c.tell-told.new.told (c.number-one.ensures.0 ∙ c.place_of.ensures) (c.number-more.ensures.0 ∙ c.place_of-2.ensures)
+      (omega (arith, c.tell-told.auto.told)) (c.tell-told.ensures.each 0) c.in-Some.row (sym c.in-Some.is ∙ c.tell-told.ensures.faulty),
+)
+
+pub returns-in_default : goal.returns-in_default
+returns-in_default c = (
+  c.tell-told.ensures.count,
+  marked_none (words c.args.s.now) (kind_number c.args.kind) c.args.a c.args.e c.args.c0 _ _ c.args.marks.now c.tell-told.new.told (c.number-one.ensures.0 ∙ c.place_of.ensures) (c.number-more.ensures.0 ∙ c.place_of-2.ensures)
+      (omega (arith, c.tell-told.auto.told)) (c.tell-told.ensures.each 0) (sym c.in_default.is ∙ c.tell-told.ensures.faulty),
+)

@@ -1,5 +1,5 @@
 -- `plan::often::method_act` meets its contract. Assumes nothing.
-use mathlib.Core.Path.{refl, sym, ◌∙◌}
+use mathlib.Core.Path.{sym, ◌∙◌}
 use Rattle.steps.specs.Slots.{free, of_method}
 use Rattle.passes.specs.View.{op_of}
 use Rattle.plan.specs.Placing.{place_of}
@@ -11,11 +11,12 @@ unfolding op_of
 returns-then-has_bit c =
     let a = c.args in
     let at = place_of a.q in
-    λ N w l o i. takes_along w at.ctx _ _ free of_method (method_computed N w l at.ctx at.slot o a.row.kind a.row.attr a.row.name i c.requires (sym c.has_bit.ensures ∙ c.if-has_bit.true)) _ refl c.inside.ensures c.within-more.ensures
+    λ N w l o i. takes_along w at.ctx _ _ free of_method (method_computed N w l at.ctx at.slot o a.row.kind a.row.attr a.row.name i c.requires (sym c.has_bit.ensures ∙ c.if-has_bit.true)) _ c.kept-op.ensures c.inside.ensures c.within-more.ensures
 
 pub returns : goal.returns
 unfolding op_of
 returns c =
     let a = c.args in
     let at = place_of a.q in
-    λ N w l o i. takes_along w at.ctx _ _ of_method of_method (method_named N w l at.ctx at.slot o a.row.kind a.row.attr a.row.name i c.requires (sym c.has_bit.ensures ∙ c.if-has_bit.false)) _ refl c.within-more.ensures c.within-more.ensures
+    λ N w l o i. takes_along w at.ctx _ _ of_method of_method (method_named N w l at.ctx at.slot o a.row.kind a.row.attr a.row.name i c.requires
+    (sym c.has_bit.ensures ∙ c.if-has_bit.false)) _ c.kept-op.ensures c.within-more.ensures c.within-more.ensures

@@ -1,5 +1,5 @@
 -- `plan::often::this_act` meets its contract. Assumes nothing.
-use mathlib.Core.Path.{refl, ap, sym, ◌∙◌}
+use mathlib.Core.Path.{ap, sym, ◌∙◌}
 use Prim.Native.Nat.{ℕ}
 use Rattle.steps.specs.Slots.{free}
 use Rattle.steps.specs.Acts.{Op}
@@ -21,4 +21,4 @@ unfolding op_of
 returns c =
     let a = c.args in
     let at = place_of a.q in
-    λ N w l o i. takes_along w at.ctx _ _ free free (this-row N w l at.ctx at.slot o a.row.kind a.row.attr a.row.name i c.requires (sym c.takes_this.ensures ∙ c.if-takes_this.false)) _ refl c.inside-inside.ensures c.inside-inside.ensures
+    λ N w l o i. takes_along w at.ctx _ _ free free (this-row N w l at.ctx at.slot o a.row.kind a.row.attr a.row.name i c.requires (sym c.takes_this.ensures ∙ c.if-takes_this.false)) _ c.kept.ensures c.inside-inside.ensures c.inside-inside.ensures

@@ -15,7 +15,7 @@ returns-then-not-has_bit-2 c = sym (rw (← c.has_bit.ensures, c.if-not-has_bit.
 pub returns-then-i-e : goal.returns-then-i-e
 unfolding value_from
 returns-then-i-e c =
-    sym (rw (← c.has_bit.ensures, c.if-not-has_bit.false, ← c.has_bit-2.ensures, c.if-not-has_bit-2.false, lt-ltb _ _ c.if-i-e.true) (sym c.cell.ensures.0))
+    sym (rw (← c.has_bit.ensures, c.if-not-has_bit.false, ← c.has_bit-2.ensures, c.if-not-has_bit-2.false, lt-ltb _ _ c.if-i-e.true) (sym c.end_at.ensures.0))
 
 pub returns : goal.returns
 unfolding value_from
