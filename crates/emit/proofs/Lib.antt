@@ -1,3 +1,4 @@
 pub mod Lists
 pub mod Dressing
 pub mod Starting
+pub mod Topped

@@ -2,7 +2,7 @@
 use mathlib.Core.Path.{ap, sym, subst, ◌∙◌}
 use mathlib.Core.Bool.{Bool}
 use native.Mathlib.Omega.{arith}
-use Rattle.forest.specs.Forest.{Rows, Rows.none, Rows.node, size}
+use Rattle.forest.specs.Forest.{Rows, Rows.none, Rows.node}
 use Rattle.passes.specs.declared.Becomes.{Becomes}
 use Rattle.passes.specs.declared.slots.Slot.TheVariants.{Wrapped}
 use Rattle.passes.proofs.Numbers.{slot_same}
@@ -13,10 +13,11 @@ use Rattle.output.proofs.Held.{put_around}
 use Rattle.inserted.proofs.Shapes.{size-assignment}
 use Rattle.emit_plan.specs.Idents.{this_row}
 use Rattle.emit_plan.specs.Inside.{rows_of, assignment_if}
-use Rattle.emit_plan.proofs.Written.{top_told, top-join, top-size, statement-rows, statement-size, assignment_if_size, sequence-rows, sequence-size, kept_inside, row-rows, row-size}
+use Rattle.emit_plan.proofs.Written.{top_told, top-join, statement-rows, statement-size, assignment_if_size, sequence-rows, sequence-size, row-rows, row-size}
 use Rattle.emit_plan.proofs.Written.{drop-rows, drop-size, name-size, captured-rows, call_rows, call-size, called_size_of, called-rows, called-size, leaf-next, as_called, expression-first, statement_test}
 use Rattle.emit_plan.proofs.Unchanged.{planned, unchanged_rows, no_children}
 use Rattle.emit.proofs.Dressing.{body-room, inner_room, dressed_written}
+use Rattle.emit.proofs.Topped.{kept_rows, kept_size, topped_size}
 use Rattle.emit.proofs.Lists.{row_room, row-fewer, turn_on, turned}
 use Prim.Native.Nat.{ℕ, ◌<◌}
 use Rattle.emit.proofs.walkers.+walk_rows.Goals as goal
@@ -188,36 +189,22 @@ function-invariant_of-frame t c =
 
 pub function-insert_at_the_top-requires : goal.function-insert_at_the_top-requires
 function-insert_at_the_top-requires t c =
-    let n = c.args.inner in
-    let v = n.walk.now in
-    let h0 = top-size v.rows.now v.names.pairs.now v.names.text.now v (slot_number c.args.slot) c.args.kind n.siblings v.bindings.store n.known.later.this in
-    let h1 = c.requires in
-    let h2 = c.append.ensures.next in
-    let h_t = ap size (top_told v.bindings (slot_number c.args.slot) c.args.kind _ _ _ c.from.ensures c.this_at.ensures.value) in
-    omega arith
+    let h0 = topped_size c.args.inner (slot_number c.args.slot) c.args.kind _ _ c.from.ensures c.this_at.ensures.value in
+    let h1 = c.requires in let h2 = c.append.ensures.next in omega arith
 
 pub function-list-requires : goal.function-list-requires
-function-list-requires t c = let n = c.args.inner in let v = n.walk.now in (
+function-list-requires t c = (
   let m = c.decreases in omega arith,
-  let h0 = top-size v.rows.now v.names.pairs.now v.names.text.now v (slot_number c.args.slot) c.args.kind n.siblings v.bindings.store n.known.later.this in
-      let h1 = c.requires in
-      let h2 = c.append.ensures.next in
-      let h3 = c.insert_at_the_top.ensures.rows.next in
-      let h_t = ap size (top_told v.bindings (slot_number c.args.slot) c.args.kind _ _ _ c.from.ensures c.this_at.ensures.value) in
-      omega arith,
+  let h0 = topped_size c.args.inner (slot_number c.args.slot) c.args.kind _ _ c.from.ensures c.this_at.ensures.value in
+      let h1 = c.requires in let h2 = c.append.ensures.next in let h3 = c.insert_at_the_top.ensures.rows.next in omega arith,
 )
 
 pub function-close-requires : goal.function-close-requires
 function-close-requires t c =
-    let n = c.args.inner in
-    let v = n.walk.now in
-    let h0 = top-size v.rows.now v.names.pairs.now v.names.text.now v (slot_number c.args.slot) c.args.kind n.siblings v.bindings.store n.known.later.this in
+    let h0 = topped_size c.args.inner (slot_number c.args.slot) c.args.kind _ _ c.from.ensures c.this_at.ensures.value in
     let h1 = c.requires in
     let h2 = c.append.ensures.next in
-    let h3 = c.insert_at_the_top.ensures.rows.next in
-    let h4 = c.list.ensures.rows.next in
-    let h_t = ap size (top_told v.bindings (slot_number c.args.slot) c.args.kind _ _ _ c.from.ensures c.this_at.ensures.value) in
-    (omega arith, omega arith)
+    let h3 = c.insert_at_the_top.ensures.rows.next in let h4 = c.list.ensures.rows.next in (omega arith, omega arith)
 
 pub function-returns-clause-rows : goal.function-returns-clause-rows
 function-returns-clause-rows t c =
@@ -229,34 +216,26 @@ function-returns-clause-rows t c =
     c.this_at.ensures.value)) c.insert_at_the_top.ensures.rows) c.list.ensures.rows) c.close.ensures.end)
 
 pub kept-class-requires : goal.kept-class-requires
-kept-class-requires t c = let v = c.args.inner.walk.now in (
+kept-class-requires t c = (
   let m = c.decreases in omega arith,
-  let h0 = ap size
-      (kept_inside v.rows.now v.names.pairs.now v.names.text.now v (slot_number c.args.slot) c.args.kind c.args.inner.siblings (sym c.is_function.ensures
-      ∙ c.if-is_function.false)) in let h1 = c.requires in omega arith,
+  let h0 = kept_size c.args.inner (slot_number c.args.slot) c.args.kind (sym c.is_function.ensures ∙ c.if-is_function.false) in
+      let h1 = c.requires in omega arith,
 )
 
 pub kept-returns-then-is_class-clause-rows : goal.kept-returns-then-is_class-clause-rows
 kept-returns-then-is_class-clause-rows t c =
-    let v = c.args.inner.walk.now in
-    named (ap (λ (t : Rows). node c.args.head.kind c.args.head.attr c.args.head.name t none)
-    (kept_inside v.rows.now v.names.pairs.now v.names.text.now v (slot_number c.args.slot) c.args.kind c.args.inner.siblings (sym c.is_function.ensures
-    ∙ c.if-is_function.false))) c.class.ensures.rows
+    named (kept_rows c.args.inner (slot_number c.args.slot) c.args.kind c.args.head (sym c.is_function.ensures ∙ c.if-is_function.false)) c.class.ensures.rows
 
 pub kept-around-requires : goal.kept-around-requires
-kept-around-requires t c = let v = c.args.inner.walk.now in (
+kept-around-requires t c = (
   let m = c.decreases in omega arith,
-  let h0 = ap size
-      (kept_inside v.rows.now v.names.pairs.now v.names.text.now v (slot_number c.args.slot) c.args.kind c.args.inner.siblings (sym c.is_function.ensures
-      ∙ c.if-is_function.false)) in let h1 = c.requires in omega arith,
+  let h0 = kept_size c.args.inner (slot_number c.args.slot) c.args.kind (sym c.is_function.ensures ∙ c.if-is_function.false) in
+      let h1 = c.requires in omega arith,
 )
 
 pub kept-returns-clause-rows : goal.kept-returns-clause-rows
 kept-returns-clause-rows t c =
-    let v = c.args.inner.walk.now in
-    named (ap (λ (t : Rows). node c.args.head.kind c.args.head.attr c.args.head.name t none)
-    (kept_inside v.rows.now v.names.pairs.now v.names.text.now v (slot_number c.args.slot) c.args.kind c.args.inner.siblings (sym c.is_function.ensures
-    ∙ c.if-is_function.false))) c.around.ensures.rows
+    named (kept_rows c.args.inner (slot_number c.args.slot) c.args.kind c.args.head (sym c.is_function.ensures ∙ c.if-is_function.false)) c.around.ensures.rows
 
 pub list-around-requires : goal.list-around-requires
 list-around-requires t c =
