@@ -7,7 +7,7 @@ ghost use Rattle.steps.specs.Mode.{Switches as Target, async_only, bit};
 ghost use Rattle.steps.specs.Naming.{Names, named_arguments};
 ghost use Rattle.steps.specs.Super.{first_super, first_access, first_inside};
 ghost use Rattle.steps.specs.Acts.{act_of, act, Op, Kind as RuleKind};
-ghost use Rattle.below.specs.Below.{property_of, Seen};
+ghost use Rattle.below.specs.Below.{property_of, Asked};
 ghost use Rattle.passes.specs.View.{op_of, slot_number};
 ghost use Rattle.passes.specs.declared.slots.Slot.TheVariants.{Free};
 ghost use Rattle.acts.specs.View.{switches_of, context_of};
@@ -275,7 +275,7 @@ pub fn decide(
     below: Below,
     arguments: bool,
 ) -> Act<Spot>
-    ensures { (N : Names) (i : Rows) → Seen i below → (row.kind ≡ 11 → arguments ≡ named_arguments N row.name)
+    ensures { (N : Names) (i : Rows) → Asked i below → (row.kind ≡ 11 → arguments ≡ named_arguments N row.name)
         → Does (switches_of switches) (context_of q.context) (act N (switches_of switches) late (context_of q.context) (slot_number q.slot) at row.kind row.attr row.name i) result }
 {
     let kind = Kind::from(row.kind);

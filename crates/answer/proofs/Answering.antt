@@ -8,12 +8,15 @@ use borrow.Author.Tests.{lt-leb}
 use lib.Dec.{leb}
 use lib.ListN.{length, drop}
 use Rattle.std.specs.Prelude.{Ok, Err, IsErrAnd}
+use Rattle.names.specs.Answered.{if_refused}
 use Rattle.names.specs.Bytes.{bytes_of}
 use Rattle.names.proofs.Storing.{length-bytes}
 use Rattle.forest.specs.Forest.{size, flat, table}
 use Rattle.rows.specs.Refusals as checks
-use Rattle.rows.specs.Refusals.{Sound, checked}
+use Rattle.rows.specs.Refusals.{Checked, Sound, checked}
 use Rattle.rows.specs.declared.Unsound.{Unsound}
+use Rattle.rows.specs.declared.Unsound.TheVariants.{Malformed, BadName, BadRow, TooDeep, MadeBinding}
+use Rattle.rows.proofs.Five.{fault-five}
 use Rattle.forest.proofs.Accepting.{length-flat}
 use Rattle.steps.specs.Mode.{Switches}
 use Rattle.steps.specs.Steps.{Result, steps}
@@ -25,10 +28,27 @@ use Rattle.output.proofs.Placing.{rows_bytes, records-bytes, whole, whole_copy}
 use Rattle.refusals.specs.Refused as turns
 use Rattle.refusals.specs.Refused.{turned_away}
 use Rattle.refusals.specs.declared.Refused.{Refused}
+use Rattle.refusals.specs.declared.Refused.TheVariants.{SuperNotAllowed, FieldHolds, NamedArguments}
 use Rattle.answer.specs.Answer.{Answer, number_of, place_of, rows_of, bindings_of}
 use Rattle.answer.specs.declared.Refusal.TheVariants.{Unsound as NoTable, TurnedAway}
 use Rattle.answer.specs.Converting.{lent_room, outcome_of, Answers}
 use Rattle.refusals.proofs.Turning.{unless_turned, turned_outcome}
+
+-- only Sound has number 0,
+pub sound-zero : (c : Checked) → if_refused checks.unsound_number c ≡ 0 → c ≡ Sound
+sound-zero (Ok sound) h = refl
+sound-zero (Err Malformed) h = absurd (omega arith)
+sound-zero (Err (BadName name)) h = absurd (omega arith)
+sound-zero (Err (BadRow fault row)) h = let least = (fault-five fault).0 in absurd (omega arith)
+sound-zero (Err (TooDeep row)) h = absurd (omega arith)
+sound-zero (Err (MadeBinding row)) h = absurd (omega arith)
+
+-- and of 6, 7 and 8 only what turns nothing away
+pub not-zero : (r : turns.Answer) → if_refused turns.number_of r ≡ 0 → r ≡ Ok tt
+not-zero (Ok u) h = refl
+not-zero (Err (SuperNotAllowed row)) h = absurd (omega arith)
+not-zero (Err (FieldHolds row)) h = absurd (omega arith)
+not-zero (Err (NamedArguments row)) h = absurd (omega arith)
 
 -- a refusal writes nothing
 refusal_answers : (number place : ℕ) (out_rows out_bindings : List ℕ) → Answers (refused number place) number place 0 0 out_rows out_rows out_bindings out_bindings

@@ -18,12 +18,11 @@ use Rattle.steps.specs.Steps.{Result, steps}
 use Rattle.steps.specs.Outcome.{Outcome, Outcome.refused, Outcome.converted, names_of, records, unless_refused, outcome}
 use Rattle.steps.specs.Accepted.{Accepted}
 use Rattle.steps.specs.Owners.{OwnersKept, arrows_on}
-use Rattle.rows.proofs.Five.{fault-five}
 use Rattle.steps.proofs.Acceptance.{Converted, converts, owner_rule}
 use Rattle.steps.proofs.Refusing.{RefusedBy, later-by}
 use Rattle.answer.specs.Converting.{lent_room, outcome_as, Answers, records_in, result_in, KeepsOwners, Converts}
+use Rattle.answer.proofs.Answering.{sound-zero}
 use Rattle.std.specs.Prelude.{Ok, Err}
-use Rattle.rows.specs.declared.Unsound.TheVariants.{Malformed, BadName, BadRow, TooDeep, MadeBinding}
 
 -- the records of bindings read back as those bindings
 records-back : (bs : List Binding) → records_in (records bs) ≡ bs
@@ -37,11 +36,7 @@ Numbered = RefusedBy (λ number. number ≡ 0 → ⊥)
 
 checked_numbered : (c : Checked) (o : Outcome) → Numbered o → Numbered (unless_refused c o)
 checked_numbered (Ok sound) o h = h
-checked_numbered (Err Malformed) o h = λ q. omega arith
-checked_numbered (Err (BadName name)) o h = λ q. omega arith
-checked_numbered (Err (BadRow fault row)) o h = λ q. let least = (fault-five fault).0 in omega arith
-checked_numbered (Err (TooDeep row)) o h = λ q. omega arith
-checked_numbered (Err (MadeBinding row)) o h = λ q. omega arith
+checked_numbered (Err unsound) o h = λ q. let e : Err unsound ≡ Sound = sound-zero (Err unsound) q in cc
 
 module _ (row_limit depth_limit : ℕ) (w : Switches) (rows names text out_rows out_bindings : List ℕ) where
   abbrev O : Outcome

@@ -3,6 +3,7 @@ ghost use Rattle.std.specs.Prelude.{◌+◌, ◌^◌, ◌<◌, ◌++◌, length}
 ghost use Rattle.base_text.specs.Refusals.{fitted, Told};
 
 use crate::Refusal;
+use names::bytes::copy;
 
 // Writes a base, the capitals of a first character and the rest of its text, one after the other, to the front of `out`,
 // and answers how many bytes they have.
@@ -16,8 +17,8 @@ pub fn write(base: &[u8], capitals: &[u8], rest: &[u8], out: &mut [u8]) -> Resul
     if out.len() < c {
         return Err(Refusal::NoRoom);
     }
-    out[..a].copy_from_slice(base);
-    out[a..b].copy_from_slice(capitals);
-    out[b..c].copy_from_slice(rest);
+    copy(&mut out[..a], base);
+    copy(&mut out[a..b], capitals);
+    copy(&mut out[b..c], rest);
     Ok(c as u32)
 }

@@ -75,8 +75,8 @@ impl<'a> Node<'a> {
         }
     }
 
-    // The name of its first child, 0 where it has none, as the definition has it. No Option: `deep_name` alone asks, and `plan`, for which it
-    // is, promises of this number that it is small, so that a None would be turned back into 0 there.
+    // The name of its first child, 0 where it has none, as the definition has it. No Option: `deep_name` and `look` alone ask, which promise
+    // of this number that it is small, `plan` too, so that a None would be turned back into 0 there.
     fn first_name(self) -> usize
         ensures { (result ≡ first_name (children (words self.entry.rows.now) self.entry.at)) × (result < 4294967296) }
     {
@@ -97,7 +97,7 @@ impl<'a> Node<'a> {
         self.first().is_some_and(Node::is_super_call)
     }
 
-    // What an act asks of the rows below it, by one look at its first child.
+    // What a walk asks of the rows below it, by one look at its first child.
     pub fn look(self) -> Below
         ensures { Seen (children (words self.entry.rows.now) self.entry.at) result }
     {
@@ -105,12 +105,16 @@ impl<'a> Node<'a> {
             Some(child) => Below {
                 first_super: child.is_super(),
                 first_access: child.is_access(),
+                super_call: child.is_super_call(),
                 deep_access: child.property(),
+                deep_name: child.first_name(),
             },
             None => Below {
                 first_super: false,
                 first_access: false,
+                super_call: false,
                 deep_access: None,
+                deep_name: 0,
             },
         }
     }

@@ -7,12 +7,15 @@ mod first;
 ghost use Rattle.names.specs.Words.{rows_in};
 ghost use Rattle.below.specs.Below.{At};
 
-// What an act asks of the rows below a row. `deep_access`: its first child's first child is `super.p` or `super[k]`, of that name.
+// What a walk asks of the rows below a row. `deep_access`: its first child's first child is `super.p` or `super[k]`, of that name;
+// `deep_name`: the name of that child, whatever it is, 0 where there is none.
 #[derive(Clone, Copy)]
 pub struct Below {
     pub first_super: bool,
     pub first_access: bool,
+    pub super_call: bool,
     pub deep_access: Option<usize>,
+    pub deep_name: usize,
 }
 
 // A row of a table, by its number: one of rows that nest.

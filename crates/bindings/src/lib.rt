@@ -2,7 +2,8 @@
 // use, property, frame, and the next of its chain. By frame: the captures of `this` and of
 // `arguments`, the first and last accessor, the first and last parameter of accessors. By bucket: its
 // last accessor; by accessor: the one before it in its bucket. No other crate knows what stands where:
-// the first walk makes bindings through a `Maker`, the second reads them through `Bindings` and `Frame`.
+// the first walk makes bindings through a `Maker`, the second reads them through `Bindings` and `Frame`,
+// and a captured Ident is read by `capture_at`, in any array of that size.
 
 #![tactic(auto)]
 
@@ -11,16 +12,16 @@ pub mod maker;
 pub mod view;
 
 ghost use Rattle.std.specs.Prelude.{◌≡◌, true, cond, ◌+◌, ◌*◌, ◌<◌, ◌≤◌, [], ◌∷◌, ◌++◌, ◌||◌, length, get_or, set};
-ghost use Rattle.uses.specs.Uses.{use_number, access_number};
+ghost use Rattle.uses.specs.Uses.{use_number, capture_number, access_number};
 ghost use Rattle.steps.specs.Bindings.{Binding.bind};
 ghost use Rattle.bindings.specs.Search.{is_param, is_accessor, one_param, params_for};
-ghost use Rattle.bindings.specs.Store.{binds, pushed, chained, last_table, link_table};
+ghost use Rattle.bindings.specs.Store.{binds, pushed, chained, capture_at, last_table, link_table};
 ghost use Rattle.bindings.specs.Post.{Kept, Asked, Room};
 ghost use Rattle.bindings.specs.Filed.{behind, bucket_of};
 
 use buckets::pick;
 use spelling::Names;
-use uses::{Access, Use};
+use uses::{Access, Capture, Use};
 
 // The words of a record: as many tables, by binding. Behind them stand the other tables.
 const RECORD: usize = 3;
@@ -53,6 +54,17 @@ pub fn entry(made: &[u32], j: usize) -> usize
     ensures { result ≡ get_or made.now j 0 }
 {
     made[j] as usize
+}
+
+// The capture of `this` or of `arguments` of frame f, in any array of that size.
+pub fn capture_at(made: &[u32], cap: usize, usage: Capture, f: usize) -> u32
+    requires { (length made.now ≡ TABLES * cap) × ((cap ≤ 16384) × (f < cap)) }
+    ensures { result ≡ capture_at made.now cap (capture_number usage) f }
+{
+    match usage {
+        Capture::This => made[THIS * cap + f],
+        Capture::Arguments => made[ARGUMENTS * cap + f],
+    }
 }
 
 // Writes the record of binding b.
@@ -105,7 +117,7 @@ fn is_param(usage: Use) -> bool
 }
 
 // Binding count + 1, chained: an accessor, or a parameter of one.
-fn add(made: &mut [u32], cap: usize, count: usize, usage: Use, x: u32, f: usize) -> usize
+pub fn add(made: &mut [u32], cap: usize, count: usize, usage: Use, x: u32, f: usize) -> usize
     requires room { Room made.old cap f count }
     requires chained { (is_param (use_number usage) || is_accessor (use_number usage)) ≡ true }
     ensures kept { Kept made.new cap (binds made.old cap count ++ (bind (use_number usage) x f ∷ [])) result }

@@ -35,6 +35,7 @@ pub record Going (input₀ out₀ input out : List ℕ) (f : Form) (pieces : ℕ
   pub as_long : length input ≡ length input₀
   pub room : 131072 ≤ length out
   pub as_wide : length out ≡ length out₀
+  pub begun : 0 < f.line
   pub near : f.line ≤ 1 + 131073 * pieces
 
 -- Lines are numbered from 1.

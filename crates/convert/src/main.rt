@@ -147,7 +147,7 @@ fn answer_text(s: &[u8], out: &mut [u8; TEXT]) -> usize
 
 // The answer to a longer text, once its last piece is read.
 fn answer_long(form: Form, out: &mut [u8; TEXT]) -> usize
-    requires { form.line + 1 < 2 ^ 32 }
+    requires { (0 < form.line) × (form.line + 1 < 2 ^ 32) }
     ensures { Shows (answer_long (told (close (point_of form)))) result out.new }
 {
     match form.end_text() {

@@ -155,11 +155,8 @@ fn undressed(walk: &Walk<'_, '_>, plan: Plan, w: &mut Writer<'_>)
         }
         Becomes::Drop => list(inner, w),
         Becomes::Name { usage, frame } => {
-            let opened = Frame {
-                bindings: walk.bindings,
-                row: frame,
-            };
-            captured_identifier(opened, usage, w)
+            let bindings = walk.bindings;
+            captured_identifier(bindings.made, bindings.cap, usage, frame, w)
         }
         Becomes::Call {
             usage,
@@ -284,9 +281,6 @@ fn transform_call_expression_for_super(
     w.append(Kind::Member as u32, 1, 0, 0);
     transform_member_expression_for_super(inner, frame, usage, property, w);
     w.close(row);
-    let opened = Frame {
-        bindings: inner.walk.bindings,
-        row: q.this_at(),
-    };
-    get_this_identifier(opened, q.takes_this(), w);
+    let bindings = inner.walk.bindings;
+    get_this_identifier(bindings.made, bindings.cap, q.takes_this(), q.this_at(), w);
 }

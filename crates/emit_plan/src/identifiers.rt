@@ -1,5 +1,5 @@
 // The Idents of bindings, each written behind what the writer has put.
-ghost use Rattle.std.specs.Prelude.{◌≡◌, ◌+◌, ◌<◌, ◌^◌};
+ghost use Rattle.std.specs.Prelude.{◌≡◌, ◌+◌, ◌*◌, ◌<◌, ◌≤◌, ◌^◌, length};
 ghost use Rattle.grammar.specs.Kinds.{Ident};
 ghost use Rattle.forest.specs.Forest.{Rows.none, Rows.node};
 ghost use Rattle.steps.specs.Outcome.{names_of};
@@ -11,31 +11,44 @@ ghost use Rattle.output.specs.Held.{Puts};
 ghost use Rattle.emit_plan.specs.Idents.{this_row};
 
 use bindings::frame::Frame;
+use bindings::{TABLES, capture_at};
 use grammar::kind::Kind;
 use output::writer::Writer;
 use spelling::Names;
 use uses::{Access, Capture};
 
 // A captured Ident: of `this` or of `arguments`.
-pub fn captured_identifier(frame: Frame<'_>, usage: Capture, w: &mut Writer<'_>)
-    requires { w.old.at + 1 < 2 ^ 32 }
+// The bare array, here and below, and no `Frame`: what is read is one word, of an array too that no `Maker` has made.
+pub fn captured_identifier(
+    made: &[u32],
+    cap: usize,
+    usage: Capture,
+    frame: usize,
+    w: &mut Writer<'_>,
+)
+    requires made_len { (length made.now ≡ TABLES * cap) × ((cap ≤ 16384) × (frame < cap)) }
+    requires at_bound { w.old.at + 1 < 2 ^ 32 }
     ensures same_reference { w.new.rows.ghost_name ≡ w.old.rows.ghost_name }
-    ensures rows { Puts w.old (node Ident 1 (capture_at frame.entry.bindings.made.now frame.entry.bindings.cap (capture_number usage) frame.entry.row) none none) w.new }
+    ensures rows { Puts w.old (node Ident 1 (capture_at made.now cap (capture_number usage) frame) none none) w.new }
 {
-    match usage {
-        Capture::This => w.leaf(Kind::Ident as u32, 1, frame.this_of()),
-        Capture::Arguments => w.leaf(Kind::Ident as u32, 1, frame.arguments_of()),
-    }
+    w.leaf(Kind::Ident as u32, 1, capture_at(made, cap, usage, frame));
 }
 
 // The This of a place: captured in that frame where it takes one.
-pub fn get_this_identifier(frame: Frame<'_>, takes_this: bool, w: &mut Writer<'_>)
-    requires { w.old.at + 1 < 2 ^ 32 }
+pub fn get_this_identifier(
+    made: &[u32],
+    cap: usize,
+    takes_this: bool,
+    frame: usize,
+    w: &mut Writer<'_>,
+)
+    requires made_len { (length made.now ≡ TABLES * cap) × ((cap ≤ 16384) × (frame < cap)) }
+    requires at_bound { w.old.at + 1 < 2 ^ 32 }
     ensures same_reference { w.new.rows.ghost_name ≡ w.old.rows.ghost_name }
-    ensures rows { Puts w.old (this_row frame.entry.bindings.made.now frame.entry.bindings.cap takes_this frame.entry.row) w.new }
+    ensures rows { Puts w.old (this_row made.now cap takes_this frame) w.new }
 {
     if takes_this {
-        return captured_identifier(frame, Capture::This, w);
+        return captured_identifier(made, cap, Capture::This, frame, w);
     }
     w.leaf(Kind::This as u32, 0, 0);
 }

@@ -4,7 +4,7 @@
 
 ghost use Rattle.std.specs.Prelude.{◌≡◌, [], length, MatchOption};
 ghost use Rattle.fields.specs.Headers.{switch_header, name_header, row_header};
-ghost use Rattle.fields.specs.Fields.{up_to, fields, number, row_of, same_bytes, Parted, Lined, bit_of, three_bits};
+ghost use Rattle.fields.specs.Fields.{up_to, fields, number, row_words, row_of, same_bytes, Parted, Lined, bit_of, three_bits};
 
 pub const NEWLINE: u8 = 10;
 
@@ -15,7 +15,7 @@ const ZERO: u8 = 48;
 const ONE: u8 = 49;
 
 // What stands before the first b and behind it, or nothing where there is no b.
-fn split_once(s: &[u8], b: u8) -> Option<(&[u8], &[u8])>
+pub fn split_once(s: &[u8], b: u8) -> Option<(&[u8], &[u8])>
     ensures { MatchOption result (length (up_to b s.now) ≡ length s.now) (λ p. Parted b s.now p.0.now p.1.now) }
 {
     let i = s.iter().position(|c| *c == b)?;
@@ -62,6 +62,18 @@ pub struct Row {
     pub end: u32,
 }
 
+// The row of four fields.
+fn read_fields(kind: &[u8], attr: &[u8], name: &[u8], end: &[u8]) -> Option<Row>
+    ensures { result ≡ row_words (number kind.now) (number attr.now) (number name.now) (number end.now) }
+{
+    Some(Row {
+        kind: read_number(kind)?,
+        attr: read_number(attr)?,
+        name: read_number(name)?,
+        end: read_number(end)?,
+    })
+}
+
 // A line of four fields.
 pub fn read_row(line: &[u8]) -> Option<Row>
     ensures { result ≡ row_of (fields line.now) }
@@ -69,15 +81,10 @@ pub fn read_row(line: &[u8]) -> Option<Row>
     let (kind, rest) = split_once(line, SPACE)?;
     let (attr, rest) = split_once(rest, SPACE)?;
     let (name, end) = split_once(rest, SPACE)?;
-    if split_once(end, SPACE).is_some() {
-        return None;
+    match split_once(end, SPACE) {
+        Some(_) => None,
+        None => read_fields(kind, attr, name, end),
     }
-    Some(Row {
-        kind: read_number(kind)?,
-        attr: read_number(attr)?,
-        name: read_number(name)?,
-        end: read_number(end)?,
-    })
 }
 
 // One function for each header: one over an enum would need the enum, a `match` that gives the header's bytes, and a definition

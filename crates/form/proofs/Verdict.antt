@@ -129,16 +129,18 @@ long-at (c ∷ s) p k n cur h q = go (eqb c 10) (long-at s p k n cur h q)
     go true ih = rw (long-ends p k n cur h q) (faulty-at s k n [])
     go false ih = rw (le-ltb (length cur) 44 h) ih
 
-pub settled-stays : (f : Form) (s : List ℕ) → settled (part_number f.part) f.count ≡ true → told (close (scan (point_of f) s)) ≡ f.line
+-- so where a line that is to be part p is settled, its number is told, whatever comes
+pub settled-stays : (p k n count : ℕ) (front s : List ℕ) → count ≤ 44 → 44 ≤ length front → settled p count ≡ true → told (close (scan (record { at = stand p k n; cur = take count front }) s)) ≡ k
 unfolding settled
-settled-stays f s h = go (eqb p 0) refl (eqb p 4) refl h
+settled-stays p k n count front s low room h = go (eqb p 0) refl (eqb p 4) refl h
   where
-    p : ℕ
-    p = part_number f.part
-
-    go : (a : Bool) → eqb p 0 ≡ a → (b : Bool) → eqb p 4 ≡ b → cond a true (cond b false (leb 44 f.count)) ≡ true → told (close (scan (point_of f) s)) ≡ f.line
-    go true e b d h = rw (eqb-true p 0 e) (faulty-at s f.line f.rows (take f.count f.front))
+    go : (a : Bool) → eqb p 0 ≡ a → (b : Bool) → eqb p 4 ≡ b → cond a true (cond b false (leb 44 count)) ≡ true → told (close (scan (record { at = stand p k n; cur = take count front }) s)) ≡ k
+    go true e b d h = rw (eqb-true p 0 e) (faulty-at s k n (take count front))
     go false e true d h = absurd (false≢true h)
     go false e false d h =
-        let t = length-take-le f.count f.front (omega (arith, f.low, f.room)) in
-        long-at s p f.line f.rows (take f.count f.front) (omega (arith, leb-true 44 f.count h)) (eqb-false p 4 d)
+        let t = length-take-le count front (omega (arith, low, room)) in
+        long-at s p k n (take count front) (omega (arith, leb-true 44 count h)) (eqb-false p 4 d)
+
+-- the same of a `Form`
+pub form-stays : (f : Form) (s : List ℕ) → settled (part_number f.part) f.count ≡ true → told (close (scan (point_of f) s)) ≡ f.line
+form-stays f s h = settled-stays (part_number f.part) f.line f.rows f.count f.front s f.low (omega (arith, f.room)) h

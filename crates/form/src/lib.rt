@@ -8,12 +8,16 @@ ghost use Rattle.std.specs.Prelude.{◌≡◌, ◌≤◌, ◌<◌, length};
 use fields::{NEWLINE, is_name_header, is_row_header, is_switch_header, read_row, read_switches};
 use parser::{FaultyLine, MOST_ROWS};
 
-// How many bytes of a line are kept: one more than a row's line can have.
-const KEPT: usize = 44;
+mod settling;
 
-// What the next line is to be; or it is faulty.
+pub use settling::is_settled;
+
+// How many bytes of a line are kept: one more than a row's line can have.
+pub const KEPT: usize = 44;
+
+// What the next line is to be; or it is faulty. They are numbered from 0, in this order.
 #[derive(Clone, Copy, PartialEq, Eq, Debug)]
-enum Part {
+pub enum Part {
     Faulty,
     SwitchHeader,
     Switches,
@@ -24,8 +28,37 @@ enum Part {
 }
 
 impl Part {
-    ghost use Rattle.std.specs.Prelude.{ℕ};
+    ghost use Rattle.std.specs.Prelude.{ℕ, MatchOption};
     ghost use Rattle.form.specs.Form.{Stand.stand, ends, part_number, moved, faulty_unless};
+
+    // The part with that number.
+    pub fn numbered(n: usize) -> Option<Part>
+        ensures { MatchOption result (5 < n) (λ p. part_number p ≡ n) }
+    {
+        match n {
+            0 => Some(Part::Faulty),
+            1 => Some(Part::SwitchHeader),
+            2 => Some(Part::Switches),
+            3 => Some(Part::NameHeader),
+            4 => Some(Part::Names),
+            5 => Some(Part::Rows),
+            _ => None,
+        }
+    }
+
+    // Its number.
+    pub fn number(self) -> usize
+        ensures { result ≡ part_number self }
+    {
+        match self {
+            Part::Faulty => 0,
+            Part::SwitchHeader => 1,
+            Part::Switches => 2,
+            Part::NameHeader => 3,
+            Part::Names => 4,
+            Part::Rows => 5,
+        }
+    }
 
     fn only_if(self, good: bool) -> Part
         ensures { result ≡ faulty_unless good self }
@@ -56,17 +89,16 @@ impl Part {
 }
 
 // Which line comes next, from 1, what it is to be, and how many rows there have been; and its first
-// bytes, as far as they are kept.
+// bytes, as far as they are kept, with how many these are.
 #[derive(Clone, Copy)]
 pub struct Form {
-    part: Part,
-    line: usize,
-    rows: usize,
-    count: usize,
-    front: [u8; KEPT],
-    ghost begun: { 0 < line },
-    ghost low: { count ≤ 44 },
-    ghost room: { length front ≡ 44 },
+    pub part: Part,
+    pub line: usize,
+    pub rows: usize,
+    pub count: usize,
+    pub front: [u8; KEPT],
+    pub ghost low: { count ≤ 44 },
+    pub ghost room: { length front ≡ 44 },
 }
 
 impl Form {
@@ -75,7 +107,7 @@ impl Form {
 
     // Before the first byte.
     pub fn new() -> Form
-        ensures { (point_of result ≡ start) × (result.line ≡ 1) }
+        ensures { (point_of result ≡ start) × (result.line ≡ 1) × (result.count ≡ 0) }
     {
         Form {
             part: Part::SwitchHeader,
@@ -88,7 +120,7 @@ impl Form {
 
     // The line that the text has come to.
     pub fn line_number(&self) -> usize
-        ensures { (result ≡ self.now.line) × (0 < result) }
+        ensures { result ≡ self.now.line }
     {
         self.line
     }
@@ -96,7 +128,7 @@ impl Form {
     // The line ends whose first bytes are kept.
     fn end_line(&mut self)
         requires { self.old.line < 2 ^ 62 }
-        ensures { (stand_of self.new ≡ ends (stand_of self.old) (take self.old.count self.old.front)) × (self.new.count ≡ 0) × (self.new.line ≤ self.old.line + 1) }
+        ensures { (stand_of self.new ≡ ends (stand_of self.old) (take self.old.count self.old.front)) × (self.new.count ≡ 0) × (self.new.line ≤ self.old.line + 1) × (self.old.line ≤ self.new.line) }
     {
         let next = self.part.after(&self.front[..self.count], self.rows);
         let goes_on = next != Part::Faulty;
@@ -117,7 +149,7 @@ impl Form {
     // One byte.
     fn take(&mut self, c: u8)
         requires { self.old.line < 2 ^ 62 }
-        ensures { (point_of self.new ≡ step c (point_of self.old)) × (self.new.line ≤ self.old.line + 1) }
+        ensures { (point_of self.new ≡ step c (point_of self.old)) × (self.new.line ≤ self.old.line + 1) × (self.old.line ≤ self.new.line) }
     {
         if c == NEWLINE {
             self.end_line();
@@ -130,29 +162,24 @@ impl Form {
     // The bytes of a piece.
     pub fn take_piece(&mut self, piece: &[u8])
         requires { self.old.line + length piece.now < 2 ^ 62 }
-        ensures { (point_of self.new ≡ scan (point_of self.old) piece.now) × (self.new.line ≤ self.old.line + length piece.now) }
+        ensures { (point_of self.new ≡ scan (point_of self.old) piece.now) × (self.new.line ≤ self.old.line + length piece.now) × (self.old.line ≤ self.new.line) }
     {
         for c in piece {
             self.take(*c);
         }
     }
 
-    // Whether no later byte can change what is told: the line is faulty already, or too long for any but a name
-    // (`settled-stays`).
+    // Whether no later byte can change what is told (`settled-stays`).
     pub fn is_settled(&self) -> bool
         ensures { result ≡ settled (part_number self.now.part) self.now.count }
     {
-        match self.part {
-            Part::Faulty => true,
-            Part::Names => false,
-            _ => KEPT <= self.count,
-        }
+        is_settled(self.part.number(), self.count)
     }
 
     // A line that has begun ends too.
     fn closed(mut self) -> Form
         requires { self.line < 2 ^ 62 }
-        ensures { (stand_of result ≡ close (point_of self)) × (result.line ≤ self.line + 1) }
+        ensures { (stand_of result ≡ close (point_of self)) × (result.line ≤ self.line + 1) × (self.line ≤ result.line) }
     {
         if self.count == 0 {
             return self;
@@ -166,7 +193,7 @@ impl Form {
         requires { self.line < 2 ^ 62 }
         ensures { MatchResult result
             (λ _. told (close (point_of self)) ≡ 0)
-            (λ e. (e.line ≡ told (close (point_of self))) × (0 < e.line) × (e.line ≤ self.line + 1)) }
+            (λ e. (e.line ≡ told (close (point_of self))) × (self.line ≤ e.line) × (e.line ≤ self.line + 1)) }
     {
         let last = self.closed();
         match last.part {

@@ -4,6 +4,8 @@ pub mod Zeros
 pub mod Cells
 pub mod Storing
 pub mod Seeking
+pub mod Sequences
+pub mod Reading
 pub mod Texts
 pub mod GoodNames
 pub mod Laying

@@ -3,6 +3,7 @@
 
 #![tactic(auto)]
 
+pub mod bytes;
 pub mod utf8;
 pub mod words;
 

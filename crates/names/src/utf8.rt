@@ -1,36 +1,35 @@
 // Well-formed UTF-8.
 ghost use Rattle.std.specs.Prelude.{◌≡◌, ℕ, ◌<◌, ◌≤◌, length, get_or};
-ghost use Rattle.names.specs.Utf8.{seq_of, seq_at, utf8};
+ghost use Rattle.names.specs.Utf8.{tail, two, three, four, seq_at, utf8};
 
-use std::str;
-
-// The length of the well-formed sequence that these bytes start with, 0 where they start with none.
-fn seq(a: u8, b: u8, c: u8, d: u8) -> usize
-    ensures { (result ≡ seq_of a b c d) × (result ≤ 4) }
+// A continuation byte.
+fn tail(b: u8) -> bool
+    ensures { result ≡ tail b }
 {
-    let tb = (0x80 <= b) & (b <= 0xBF);
-    let tc = (0x80 <= c) & (c <= 0xBF);
-    let td = (0x80 <= d) & (d <= 0xBF);
-    if a <= 0x7F {
-        return 1;
-    }
-    if (0xC2 <= a) & (a <= 0xDF) & tb {
-        return 2;
-    }
-    if ((0xE0 <= a) & (a <= 0xE0) & ((0xA0 <= b) & (b <= 0xBF)) & tc)
-        | ((0xE1 <= a) & (a <= 0xEC) & tb & tc)
-        | ((0xED <= a) & (a <= 0xED) & ((0x80 <= b) & (b <= 0x9F)) & tc)
-        | ((0xEE <= a) & (a <= 0xEF) & tb & tc)
-    {
-        return 3;
-    }
-    if ((0xF0 <= a) & (a <= 0xF0) & ((0x90 <= b) & (b <= 0xBF)) & tc & td)
-        | ((0xF1 <= a) & (a <= 0xF3) & tb & tc & td)
-        | ((0xF4 <= a) & (a <= 0xF4) & ((0x80 <= b) & (b <= 0x8F)) & tc & td)
-    {
-        return 4;
-    }
-    0
+    (0x80 <= b) & (b <= 0xBF)
+}
+
+fn two(a: u8, b: u8) -> bool
+    ensures { result ≡ two a b }
+{
+    (0xC2 <= a) & (a <= 0xDF) & tail(b)
+}
+
+fn three(a: u8, b: u8, c: u8) -> bool
+    ensures { result ≡ three a b c }
+{
+    ((0xE0 <= a) & (a <= 0xE0) & ((0xA0 <= b) & (b <= 0xBF)) & tail(c))
+        | ((0xE1 <= a) & (a <= 0xEC) & tail(b) & tail(c))
+        | ((0xED <= a) & (a <= 0xED) & ((0x80 <= b) & (b <= 0x9F)) & tail(c))
+        | ((0xEE <= a) & (a <= 0xEF) & tail(b) & tail(c))
+}
+
+fn four(a: u8, b: u8, c: u8, d: u8) -> bool
+    ensures { result ≡ four a b c d }
+{
+    ((0xF0 <= a) & (a <= 0xF0) & ((0x90 <= b) & (b <= 0xBF)) & tail(c) & tail(d))
+        | ((0xF1 <= a) & (a <= 0xF3) & tail(b) & tail(c) & tail(d))
+        | ((0xF4 <= a) & (a <= 0xF4) & ((0x80 <= b) & (b <= 0x8F)) & tail(c) & tail(d))
 }
 
 // The byte at i, 0 past the end.
@@ -42,6 +41,8 @@ pub fn byte(s: &[u8], i: usize) -> u8
 
 // The length of the well-formed sequence at i, 0 where none starts there. A number, as the definition has it, and no Option: base
 // text, which alone asks, tells a width of any bytes (`first_width`), and would turn None into this 0 again.
+// Inlined, since a call for each byte of a name would take longer than what it answers.
+#[inline(always)]
 pub fn seq_at(s: &[u8], i: usize) -> usize
     requires { i < length s.now }
     ensures { (result ≡ seq_at s.now i) × (result ≤ 4) }
@@ -50,12 +51,54 @@ pub fn seq_at(s: &[u8], i: usize) -> usize
     if a <= 0x7F {
         return 1;
     }
-    seq(a, byte(s, i + 1), byte(s, i + 2), byte(s, i + 3))
+    // The first byte says which rows of the table are asked.
+    let b = byte(s, i + 1);
+    if a <= 0xDF {
+        return if two(a, b) { 2 } else { 0 };
+    }
+    let c = byte(s, i + 2);
+    if a <= 0xEF {
+        return if three(a, b, c) { 3 } else { 0 };
+    }
+    if four(a, b, c, byte(s, i + 3)) { 4 } else { 0 }
 }
 
-// Whether these bytes are well-formed sequences, one after the other.
+// The same as `is_utf8`, sequence by sequence.
+// A loop by hand: a sequence is as long as its bytes say, so that there is no list of them to walk over: no plainer.
+fn are_sequences(s: &[u8]) -> bool
+    ensures { result ≡ utf8 s.now }
+{
+    let mut i: usize = 0;
+    while i < s.len() {
+        let w = seq_at(s, i);
+        if w == 0 {
+            return false;
+        }
+        i += w;
+    }
+    true
+}
+
+// The high bit of each byte of a word.
+const HIGH_BITS: u64 = 0x8080_8080_8080_8080;
+
+// Whether these bytes begin with eight of ASCII, so that it is worth to ask for more.
+fn begins_ascii(s: &[u8]) -> bool {
+    match s.first_chunk::<8>() {
+        Some(word) => u64::from_le_bytes(*word) & HIGH_BITS == 0,
+        None => false,
+    }
+}
+
+// Whether these bytes are well-formed sequences, one after the other: ASCII, which the library reads by words, or else sequence by
+// sequence, since the library's own reader of UTF-8 takes up to twice as long where a few ASCII letters stand between others.
 pub fn is_utf8(s: &[u8]) -> bool
     ensures { result ≡ utf8 s.now }
 {
-    str::from_utf8(s).is_ok()
+    if begins_ascii(s) {
+        if s.is_ascii() {
+            return true;
+        }
+    }
+    are_sequences(s)
 }

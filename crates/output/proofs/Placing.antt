@@ -25,7 +25,7 @@ bytes_node : (o k a n : ℕ) (i s : Rows)
 unfolding flat bytes_of
 bytes_node o k a n i s = rw (bytes-append (flat (o + 1) i) (flat (o + 1 + size i) s))
 
-emit-flat : (f : Rows) (o : List ℕ) (r : ℕ) → 16 * (r + size f) ≤ length o → emit_rows o r f ≡ sets o (r * 16) (bytes_of (flat r f))
+pub emit-flat : (f : Rows) (o : List ℕ) (r : ℕ) → 16 * (r + size f) ≤ length o → emit_rows o r f ≡ sets o (r * 16) (bytes_of (flat r f))
 unfolding emit_rows size
 emit-flat none o r h = unfold flat bytes_of in refl
 emit-flat (node k a n i s) o r h =

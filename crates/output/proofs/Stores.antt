@@ -1,10 +1,11 @@
 -- Runs of bytes that are written into a list. Assumes nothing.
 use mathlib.Core.Path.{◌≡◌, refl, sym, ap, ◌∙◌}
-use mathlib.Core.List.{List, [], ◌∷◌}
-use Prim.Native.Nat.{ℕ, suc, ◌+◌, ◌≤◌, ◌<◌}
+use mathlib.Core.List.{List, [], ◌∷◌, append_assoc}
+use Prim.Native.Nat.{ℕ, suc, ◌+◌, ◌-◌, ◌≤◌, ◌<◌}
 use native.Mathlib.Omega.{arith}
-use lib.ListN.{length, set}
-use lib.Seq.{sets, set_comm, set-set}
+use lib.ListN.{length, set, take, drop}
+use lib.Seq.{sets, sets-eq, set_comm, set-set, drop-drop}
+use borrow.Rule.Slice.PartMut.{put_mid}
 use Rattle.names.specs.Bytes.{le32}
 use Rattle.names.proofs.Storing.{length-le32}
 
@@ -37,3 +38,9 @@ words-apart o i j x y h = sym (sets-sets (le32 x) o i j (le32 y) (omega (arith, 
 
 pub word_over : (o : List ℕ) (i x y : ℕ) → sets (sets o i (le32 x)) i (le32 y) ≡ sets o i (le32 y)
 word_over o i x y = sets_over (le32 x) (le32 y) o i (length-le32 x ∙ sym (length-le32 y))
+
+-- a part of a list that became the run s
+pub run : (o ys s : List ℕ) (b : ℕ) → b + length s ≤ length o → ys ≡ s → put_mid b (b + length s - b) o ys ≡ sets o b s
+run o ys s b h q =
+    let e : b + length s - b ≡ length s = omega arith in
+    rw (e, q, drop-drop (length s) b o) (sym (sets-eq s o b h ∙ append_assoc (take b o) s (drop (b + length s) o)))

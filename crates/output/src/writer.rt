@@ -1,9 +1,11 @@
 // A writer over the output rows that a caller lends: it holds them, with the number of the next row.
-ghost use Rattle.std.specs.Prelude.{◌≡◌, ◌+◌, ◌<◌, ◌^◌};
+ghost use Rattle.std.specs.Prelude.{◌≡◌, ◌+◌, ◌*◌, ◌<◌, ◌≤◌, ◌^◌, length};
+ghost use Rattle.names.specs.Words.{rows_in};
 ghost use Rattle.forest.specs.Forest.{Rows.none, Rows.node};
-ghost use Rattle.output.specs.Held.{rowed, closed, Puts};
+ghost use Rattle.output.specs.Held.{rowed, closed, copied, Puts};
 
 use super::append_row;
+use names::bytes::copy;
 use names::words::put_word;
 
 // The lent rows, and the number of the next one.
@@ -78,6 +80,18 @@ impl Writer<'_> {
         if b + 16 <= self.rows.len() {
             put_word(self.rows, b + 12, self.at as u32);
         }
+    }
+
+    // Rows that stand in bytes of their own are put, all of them at once, where there is room for them.
+    pub fn copy(&mut self, rows: &[u8])
+        requires { self.old.at * 16 + length rows.now ≤ length self.old.rows.now }
+        ensures same_reference { self.new.rows.ghost_name ≡ self.old.rows.ghost_name }
+        ensures next { self.new.at ≡ self.old.at + rows_in rows.now }
+        ensures rows { self.new ≡ copied self.old rows.now }
+    {
+        let b = self.at * 16;
+        copy(&mut self.rows[b..b + rows.len()], rows);
+        self.at += rows.len() / 16;
     }
 
     // The number of the next row. The rows stay as they are.

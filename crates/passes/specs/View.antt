@@ -1,5 +1,5 @@
 -- The code's values as those of the steps. Assumes nothing.
-use Rattle.std.specs.Prelude.{ℕ, ◌≡◌, Bool, true, false, cond, ltb}
+use Rattle.std.specs.Prelude.{ℕ, ◌+◌, ◌≡◌, Bool, true, false, cond, ltb}
 use Rattle.steps.specs.Slots.{free, of_method, body_of, late_body, wrapped, of_target, callee, dropped}
 use Rattle.steps.specs.Acts.{Op, Op.row, Op.drop, Op.name, Op.call}
 use Rattle.steps.specs.AfterSuper.{list, visit, copy, direct, once, heritage, members}
@@ -30,7 +30,7 @@ slot_number slot.Dropped = dropped
 abbrev pub slotted : ℕ → ℕ
 slotted n = cond (ltb n 8) n free
 
--- a state of module 7 by its number; 7 is none of the list's
+-- a state of module 7 by its number; 7 and what is above it are none of the list's
 abbrev pub state_number : State → ℕ
 state_number state.List = list
 state_number state.Visit = visit
@@ -39,7 +39,7 @@ state_number state.Direct = direct
 state_number state.Once = once
 state_number state.Heritage = heritage
 state_number state.Members = members
-state_number state.Unlisted = 7
+state_number (state.Unlisted above) = 7 + above
 
 -- what a number says: a state of the list, or none
 abbrev pub stated : ℕ → ℕ

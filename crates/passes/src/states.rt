@@ -1,8 +1,8 @@
 // The states of module 7.
 ghost use Rattle.std.specs.Prelude.{◌≡◌};
-ghost use Rattle.passes.specs.View.{state_number, stated};
+ghost use Rattle.passes.specs.View.{state_number};
 
-// What is done in a list of rows. A number that is in no list is Unlisted: its rows are visited, and nothing is met in them.
+// What is done in a list of rows.
 #[derive(Clone, Copy, PartialEq, Eq)]
 pub enum State {
     // A statement list in which no direct super call was met yet.
@@ -19,11 +19,12 @@ pub enum State {
     Heritage,
     // The members of a Class.
     Members,
-    Unlisted,
+    // A number that is in no list, by how far it is above 7: its rows are visited, and nothing is met in them.
+    Unlisted(usize),
 }
 
 impl From<usize> for State {
-    ghost from_gives = { λ n state. state_number state ≡ stated n };
+    ghost from_gives = { λ n state. state_number state ≡ n };
 
     fn from(n: usize) -> State {
         match n {
@@ -34,7 +35,7 @@ impl From<usize> for State {
             4 => State::Once,
             5 => State::Heritage,
             6 => State::Members,
-            _ => State::Unlisted,
+            _ => State::Unlisted(n - 7),
         }
     }
 }

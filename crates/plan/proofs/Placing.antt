@@ -7,9 +7,6 @@ use native.Mathlib.Nat.{mod-lt, mod-eq_of_lt, div-eq_of_lt, add-mul-mod_self_lef
 use Rattle.steps.specs.Acts.{Ctx}
 use Rattle.steps.specs.Context.{spot}
 use Rattle.steps.specs.Slots.{free}
-use Rattle.passes.specs.View.{slot_number}
-use Rattle.passes.specs.declared.slots.Slot.{Slot}
-use Rattle.passes.proofs.Numbers.{slot_low}
 use Rattle.plan.specs.Frames.{FramesBelow}
 use Rattle.plan.specs.Placing.{flag_in, frame_in, context_in, place_of}
 use Rattle.plan.specs.declared.place.Place.{Place}
@@ -68,12 +65,10 @@ context_back c h =
     simp (above 2, above 16384, flag_back, lowest 16384, mod-eq_of_lt)
 
 -- a spot is read back from the number that `placed` makes of it; t, s and a are the flags as numbers
-pub place-back : (c : Ctx) (sl : Slot) (t s a : ℕ) → FramesBelow 16384 c → t ≡ bit_of c.takes_this → s ≡ bit_of c.takes_super → a ≡ bit_of c.takes_arguments
-    → place_of (record { code = slot_number sl + 8 * (t + 2 * (s + 2 * (a + 2 * (c.this_at + 16384 * (c.super_at + 16384 * c.arguments_at))))) }) ≡ spot c (slot_number sl)
+pub place-back : (c : Ctx) (sl t s a : ℕ) → FramesBelow 16384 c → sl < 8 → t ≡ bit_of c.takes_this → s ≡ bit_of c.takes_super → a ≡ bit_of c.takes_arguments
+    → place_of (record { code = sl + 8 * (t + 2 * (s + 2 * (a + 2 * (c.this_at + 16384 * (c.super_at + 16384 * c.arguments_at))))) }) ≡ spot c sl
 unfolding place_of
-place-back c sl t s a h et es ea =
-    let l : slot_number sl < 8 = slot_low sl in
-    rw (et, es, ea, lowest 8, above 8, context_back c h)
+place-back c sl t s a h l et es ea = rw (et, es, ea, lowest 8, above 8, context_back c h)
 
 -- with the slot taken away the context stays
 pub inside_back : (p : Place) → place_of (record { code = 8 * (p.code / 8) }) ≡ spot (place_of p).ctx free
@@ -83,8 +78,6 @@ inside_back p =
     rw (mul-div_right (p.code / 8) pos, mul-mod_right)
 
 -- with another slot the context stays
-pub within-back : (p : Place) (sl : Slot) → place_of (record { code = slot_number sl + 8 * (p.code / 8) }) ≡ spot (place_of p).ctx (slot_number sl)
+pub within-back : (p : Place) (sl : ℕ) → sl < 8 → place_of (record { code = sl + 8 * (p.code / 8) }) ≡ spot (place_of p).ctx sl
 unfolding place_of
-within-back p sl =
-    let l : slot_number sl < 8 = slot_low sl in
-    rw (lowest 8, above 8)
+within-back p sl h = rw (lowest 8, above 8)

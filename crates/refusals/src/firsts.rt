@@ -1,5 +1,5 @@
 // Refusals 6, 7 and 8, each by one pass over the rows of a table that `rows::check` accepts; 6 and 7
-// with an array that is lent, of an entry for each row.
+// with an array of an entry for each row, that is lent or as large as the table needs.
 ghost use Rattle.std.specs.Prelude.{◌≡◌, ◌+◌, ◌*◌, ◌<◌, ◌≤◌, length, get_or};
 ghost use Rattle.names.specs.Words.{words, kind_at, name_at, end_at};
 ghost use Rattle.forest.specs.Forest.{rows_at};
@@ -23,8 +23,8 @@ pub struct Table<'a> {
     pub ghost known: { GivenRows rows.now count },
 }
 
-// Refusal 6: the first Super that its owner does not allow, with an array of zeros that has room for an entry a row.
-pub fn first_super(table: &Table<'_>, stands: &mut [u16]) -> Option<usize>
+// The first Super that its owner does not allow, with an array of zeros that has room for an entry a row.
+pub(crate) fn super_over(table: &Table<'_>, stands: &mut [u16]) -> Option<usize>
     requires { Clear stands.old table.now.count }
     ensures { result ≡ seek sixes outer outer 0 (rows_at (words table.now.rows.now) 0 table.now.count) }
 {
@@ -43,6 +43,27 @@ pub fn first_super(table: &Table<'_>, stands: &mut [u16]) -> Option<usize>
         tell(rows, stands, one, more, i + 1, e);
     }
     None
+}
+
+// The same with an array of its own, for a table of at most N rows.
+fn super_of<const N: usize>(table: &Table<'_>) -> Option<usize>
+    requires { (table.now.count ≤ N) × (N ≤ 16384) }
+    ensures { result ≡ seek sixes outer outer 0 (rows_at (words table.now.rows.now) 0 table.now.count) }
+{
+    let mut stands = [0u16; N];
+    super_over(table, &mut stands)
+}
+
+// Refusal 6: the first Super that its owner does not allow. The sizes are forest's, whose `first_fault` says
+// why the choice of one is no function for all.
+pub fn first_super(table: &Table<'_>) -> Option<usize>
+    ensures { result ≡ seek sixes outer outer 0 (rows_at (words table.now.rows.now) 0 table.now.count) }
+{
+    match table.count {
+        ..=64 => super_of::<64>(table),
+        65..=1024 => super_of::<1024>(table),
+        _ => super_of::<16384>(table),
+    }
 }
 
 // The first row of the value of a Field i of attr a and end e; e where it has none, as the definition has it. A row at e is none
@@ -91,11 +112,11 @@ fn is_hit(kind: usize, arrows: bool) -> bool
     }
 }
 
-// Refusal 7: the first Field whose value holds a Super, or with `arrows` an Arrow, with an array that has room
+// The first Field whose value holds a Super, or with `arrows` an Arrow, with an array that has room
 // for an entry a row. The rows are visited from the last, so that the next such row is known from each row
 // on, and the lowest Field that reaches one stays. (The outermost Field of the first such row would
 // not do: a Field's key may hold a Field of its own.)
-pub fn first_field(table: &Table<'_>, arrows: bool, next: &mut [u16]) -> Option<usize>
+pub(crate) fn field_over(table: &Table<'_>, arrows: bool, next: &mut [u16]) -> Option<usize>
     requires { table.now.count ≤ length next.old }
     ensures { result ≡ seek (field_rule arrows) tt tt 0 (rows_at (words table.now.rows.now) 0 table.now.count) }
 {
@@ -112,6 +133,26 @@ pub fn first_field(table: &Table<'_>, arrows: bool, next: &mut [u16]) -> Option<
         }
     }
     found
+}
+
+// The same with an array of its own, for a table of at most N rows.
+fn field_of<const N: usize>(table: &Table<'_>, arrows: bool) -> Option<usize>
+    requires { (table.now.count ≤ N) × (N ≤ 16384) }
+    ensures { result ≡ seek (field_rule arrows) tt tt 0 (rows_at (words table.now.rows.now) 0 table.now.count) }
+{
+    let mut next = [0u16; N];
+    field_over(table, arrows, &mut next)
+}
+
+// Refusal 7: the first Field whose value holds a Super, or with `arrows` an Arrow. The sizes are those of `first_super`.
+pub fn first_field(table: &Table<'_>, arrows: bool) -> Option<usize>
+    ensures { result ≡ seek (field_rule arrows) tt tt 0 (rows_at (words table.now.rows.now) 0 table.now.count) }
+{
+    match table.count {
+        ..=64 => field_of::<64>(table, arrows),
+        65..=1024 => field_of::<1024>(table, arrows),
+        _ => field_of::<16384>(table, arrows),
+    }
 }
 
 // Whether row i is a Declarator, Function or Class named `arguments`.

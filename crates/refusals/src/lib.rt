@@ -2,7 +2,7 @@
 
 #![tactic(auto)]
 
-mod firsts;
+pub mod firsts;
 mod standing;
 
 ghost use Rattle.std.specs.Prelude.{◌≡◌, ◌≤◌};
@@ -13,7 +13,7 @@ ghost use Rattle.steps.specs.Outcome.{names_of};
 ghost use Rattle.refusals.specs.Given.{GivenRows};
 ghost use Rattle.refusals.specs.Refused.{number_of, place_for, turned_away};
 
-use firsts::{Table, first_arguments, first_field, first_super};
+use firsts::{Table, field_over, first_arguments, super_over};
 use spelling::Names;
 use steps::ArrowFunctionConverter;
 
@@ -63,10 +63,10 @@ fn refusal_over<const N: usize>(
     }
     let mut entries = [0u16; N];
     let only = converter.is_async_only();
-    if let Some(row) = first_super(table, &mut entries) {
+    if let Some(row) = super_over(table, &mut entries) {
         return Err(Refused::SuperNotAllowed { row });
     }
-    if let Some(row) = first_field(table, only, &mut entries) {
+    if let Some(row) = field_over(table, only, &mut entries) {
         return Err(Refused::FieldHolds { row });
     }
     if !only {

@@ -14,13 +14,14 @@ use Rattle.names.specs.Answered.{unless_found}
 use Rattle.forest.specs.Faults.{first_fault}
 use Rattle.forest.specs.Told.{first_deep}
 use Rattle.rows.specs.Sound.{GoodSizes}
-use Rattle.rows.specs.Refusals.{limited, sizes_ok, first_made, checked, Sound}
+use Rattle.rows.specs.Refusals.{limited, sizes_ok, first_made, checked, Checked, Sound}
 use Rattle.names.proofs.Bools.{and_left, and_right, and_both}
 use Rattle.names.proofs.GoodNames.{name-sizes}
 use Rattle.forest.proofs.Accepting.{none-faulty}
 use Rattle.forest.proofs.Descent.{first-lowest}
 use Rattle.rows.specs.declared.Unsound.TheVariants.{Malformed, BadName, BadRow, TooDeep, MadeBinding}
 use Rattle.forest.specs.declared.BadRow.{BadRow as RowFault}
+use Rattle.forest.specs.declared.Fault.{Fault}
 
 module _ (row_limit depth_limit : ℕ) (rows names text : List ℕ) where
   abbrev pub SizesOk : Bool → Type 0
@@ -66,6 +67,10 @@ module _ (row_limit depth_limit : ℕ) (rows names text : List ℕ) where
       and_both
       (and_both (and_both (eq-eqb (length rows % 16) 0 (omega arith)) (lt-ltb 0 (length rows) (omega arith))) (le-leb (length rows) (16 * limited row_limit) (omega arith)))
       (and_both (and_both (eq-eqb (length names % 8) 0 (omega arith)) (le-leb (length names) 32768 (omega arith))) (le-leb (length text) 65535 g.short))
+
+-- a bad row, by the fault that the code has
+pub bad-by : {fault told : Fault} {row : ℕ} {c : Checked} → fault ≡ told → Err (BadRow told row) ≡ c → Err (BadRow fault row) ≡ c
+bad-by {fault} {told} {row} q h = ap (λ (x : Fault). Err (BadRow x row)) q ∙ h
 
 -- the depth's limit as the code has it
 pub deep-at : (ws : List ℕ) (limit n : ℕ) (r : Option ℕ) {most : ℕ} → most ≡ limited limit → r ≡ first_deep ws most n → r ≡ first_deep ws (limited limit) n

@@ -1,7 +1,7 @@
 // The numbers of the input: decimal, apart by blanks and line ends; `#` starts a comment that ends with its line.
 ghost use Rattle.std.specs.Prelude.{◌<◌, ◌≤◌, length, IfSome};
 
-use std::{fmt, str};
+use std::fmt;
 
 // What is wrong with stored data.
 #[derive(Clone, Copy, Debug, PartialEq, Eq)]
@@ -21,52 +21,42 @@ impl fmt::Display for Fault {
     }
 }
 
-// What a byte belongs to.
-#[derive(Clone, Copy, PartialEq, Eq)]
-enum Part {
-    Blank,
-    Comment,
-    Number,
+// s from the end of its first line on.
+fn skip_line(s: &[u8]) -> &[u8]
+    ensures { length result.now ≤ length s.now }
+{
+    let n = s.iter().position(|b| *b == b'\n').unwrap_or(s.len());
+    &s[n..]
 }
 
-impl Part {
-    // What a byte belongs to that stands behind this.
-    fn then(self, b: u8) -> Part {
-        match (self, b) {
-            (_, b'\n') => Part::Blank,
-            (Part::Comment, _) => Part::Comment,
-            (_, b'#') => Part::Comment,
-            (_, b' ') => Part::Blank,
-            _ => Part::Number,
-        }
-    }
-}
-
-// s from its first byte on that is no blank and in no comment.
+// s from its first byte on that is no blank and in no comment. A loop by hand: a comment is passed over whole, so that no byte is
+// asked what the bytes before it were: no plainer.
 fn skip(s: &[u8]) -> &[u8]
     ensures { length result.now ≤ length s.now }
 {
-    let mut part = Part::Blank;
-    for (i, b) in s.iter().enumerate() {
-        part = part.then(*b);
-        if part == Part::Number {
-            return &s[i..];
-        }
+    let mut rest = s;
+    while let Some((b, after)) = rest.split_first() {
+        rest = match *b {
+            b' ' | b'\n' => after,
+            b'#' => skip_line(after),
+            _ => break,
+        };
     }
-    &[]
+    rest
 }
 
 // The number that s starts with, and what stands behind it. No digit there, or more than a u32 holds: none.
 fn number(s: &[u8]) -> Option<(u32, &[u8])>
     ensures { IfSome result (λ p. length p.1.now < length s.now) }
 {
-    let n = s
-        .iter()
-        .position(|b| !b.is_ascii_digit())
-        .unwrap_or(s.len());
-    let (digits, rest) = s.split_at(n);
-    let value = str::from_utf8(digits).ok()?.parse().ok()?;
-    Some((value, rest))
+    let mut value: u32 = 0;
+    for (i, b) in s.iter().enumerate() {
+        if !b.is_ascii_digit() {
+            return (i != 0).then_some((value, &s[i..]));
+        }
+        value = u32::try_from(10 * u64::from(value) + u64::from(*b - b'0')).ok()?;
+    }
+    (!s.is_empty()).then_some((value, &[]))
 }
 
 // Whether nothing is left to be read.

@@ -1,6 +1,6 @@
 // The bytes of one stored case: its rows or records, its name pairs and its text. Each part is stored as
 // runs of items.
-ghost use Rattle.std.specs.Prelude.{◌≡◌, ◌+◌, ◌*◌, ◌≤◌, ◌↔◌, length, replicate, IfOk, IsTrue};
+ghost use Rattle.std.specs.Prelude.{◌≡◌, ◌+◌, ◌-◌, ◌*◌, ◌≤◌, ◌↔◌, length, replicate, IfOk, IsTrue};
 ghost use Rattle.vectors.specs.Kinds.{item_size};
 
 use crate::input::Fault;
@@ -108,6 +108,7 @@ fn put_run(out: &mut [u8], kind: Kind, item: &[u32], times: u32, step: u32) -> R
 fn put_runs(words: &mut Words<'_>, kind: Kind, out: &mut [u8]) -> Result<usize, Fault>
     ensures len { IfOk result (λ n. n ≤ length out.old) }
     ensures words { IfOk result (λ _. length words.new.rest.now + 1 ≤ length words.old.rest.now) }
+    ensures fewer { length words.new.rest.now ≤ length words.old.rest.now - 1 }
 {
     let count = words.next()?;
     let mut len = 0;
@@ -125,6 +126,7 @@ fn put_runs(words: &mut Words<'_>, kind: Kind, out: &mut [u8]) -> Result<usize, 
 pub fn runs<'a>(words: &mut Words<'_>, kind: Kind, out: &'a mut [u8]) -> Result<&'a [u8], Fault>
     ensures len { IfOk result (λ s. length s.now ≤ length out.old) }
     ensures words { IfOk result (λ _. length words.new.rest.now + 1 ≤ length words.old.rest.now) }
+    ensures fewer { length words.new.rest.now ≤ length words.old.rest.now - 1 }
 {
     let len = put_runs(words, kind, out)?;
     Ok(&out[..len])
@@ -138,6 +140,7 @@ fn part_with_zeros<'a>(
 ) -> Result<&'a [u8], Fault>
     ensures len { IfOk result (λ s. length s.now ≤ length out.old) }
     ensures words { IfOk result (λ _. length words.new.rest.now + 2 ≤ length words.old.rest.now) }
+    ensures fewer { length words.new.rest.now ≤ length words.old.rest.now - 1 }
 {
     let len = put_runs(words, kind, out)?;
     let zeros = words.next()? as usize;
@@ -171,7 +174,8 @@ impl NameRoom {
 
     // Builds the names: pairs with zero bytes behind them, and the text.
     pub fn build(&mut self, words: &mut Words<'_>) -> Result<Names<'_>, Fault>
-        ensures { IfOk result (λ _. length words.new.rest.now + 3 ≤ length words.old.rest.now) }
+        ensures words { IfOk result (λ _. length words.new.rest.now + 3 ≤ length words.old.rest.now) }
+        ensures fewer { length words.new.rest.now ≤ length words.old.rest.now - 1 }
     {
         let NameRoom { pairs, text } = self;
         let pairs = part_with_zeros(words, Kind::Pair, pairs)?;
@@ -206,7 +210,8 @@ impl<const N: usize> Room<N> {
 
     // Builds a case whose first part has items of that kind.
     pub fn build(&mut self, words: &mut Words<'_>, kind: Kind) -> Result<Built<'_>, Fault>
-        ensures { IfOk result (λ _. length words.new.rest.now + 5 ≤ length words.old.rest.now) }
+        ensures words { IfOk result (λ _. length words.new.rest.now + 5 ≤ length words.old.rest.now) }
+        ensures fewer { length words.new.rest.now ≤ length words.old.rest.now - 1 }
     {
         let Room { first, names } = self;
         let first = part_with_zeros(words, kind, first)?;

@@ -1,5 +1,5 @@
 // The words of the input, read one behind the other.
-ghost use Rattle.std.specs.Prelude.{◌≡◌, ◌+◌, ◌∷◌, ◌++◌, length, IfOk};
+ghost use Rattle.std.specs.Prelude.{◌≡◌, ◌+◌, ◌-◌, ◌≤◌, ◌∷◌, ◌++◌, length, IfOk};
 
 use crate::compared::{Numbers, widened};
 use crate::input::Fault;
@@ -12,7 +12,8 @@ pub struct Words<'a> {
 
 impl<'a> Words<'a> {
     pub fn next(&mut self) -> Result<u32, Fault>
-        ensures { IfOk result (λ w. self.old.rest.now ≡ w ∷ self.new.rest.now) }
+        ensures first { IfOk result (λ w. self.old.rest.now ≡ w ∷ self.new.rest.now) }
+        ensures fewer { length self.new.rest.now ≡ length self.old.rest.now - 1 }
     {
         let (first, rest) = self.rest.split_first().ok_or(Fault::Case)?;
         self.rest = rest;
@@ -22,6 +23,7 @@ impl<'a> Words<'a> {
     pub fn take(&mut self, n: usize) -> Result<&'a [u32], Fault>
         ensures len { IfOk result (λ s. length s.now ≡ n) }
         ensures parts { IfOk result (λ s. self.old.rest.now ≡ s.now ++ self.new.rest.now) }
+        ensures fewer { length self.new.rest.now ≤ length self.old.rest.now }
     {
         let (first, rest) = self.rest.split_at_checked(n).ok_or(Fault::Case)?;
         self.rest = rest;

@@ -20,6 +20,7 @@ use emit::emit;
 use emit_plan::Walk;
 use grammar::kind::Kind;
 use names::words::{attr_at, kind_at};
+use output::writer::Writer;
 use records::write_records;
 use spelling::Names;
 use steps::has_bit;
@@ -72,9 +73,10 @@ pub fn unchanged(
     if out_rows.len() / 16 < rows.len() / 16 {
         return Err(Refusal::NoRoom);
     }
-    out_rows[..rows.len()].copy_from_slice(rows);
+    let mut w = Writer::new(out_rows, 0);
+    w.copy(rows);
     Ok(Converted {
-        rows: rows.len() / 16,
+        rows: w.finish(),
         bindings: 0,
     })
 }

@@ -17,7 +17,7 @@ hand_on-requires c =
     let ns = names_of a.names.now.pairs.now a.names.now.text.now in
     let ws = words a.node.rows.now in
     placeable ns (switches_of a.switches) a.late (context_of c.spot-spot.result.context) (slot_number c.spot-spot.result.slot) a.node.at a.row.kind a.row.attr a.row.name (children ws a.node.at)
-    (c.decide.ensures ns (children ws a.node.at) c.look-below.ensures c.named_arguments-arguments.ensures) (let r = c.args.node.known.row in let f = c.args.node.known.few in omega arith) c.spot-spot.ensures.frames_below
+    (c.decide.ensures ns (children ws a.node.at) c.look-below.ensures.asked c.named_arguments-arguments.ensures) (let r = c.args.node.known.row in let f = c.args.node.known.few in omega arith) c.spot-spot.ensures.frames_below
 
 pub returns : goal.returns
 unfolding named_arguments
@@ -28,4 +28,4 @@ returns c =
     let ws = words a.node.rows.now in
     takes_at ns w a.late a.node.at a.row.kind a.row.attr a.row.name (children ws a.node.at) c.spot-spot.ensures.result_value
     (handed ns w a.late (context_of c.spot-spot.result.context) (slot_number c.spot-spot.result.slot) a.node.at a.row.kind a.row.attr a.row.name (children ws a.node.at)
-    (c.decide.ensures ns (children ws a.node.at) c.look-below.ensures c.named_arguments-arguments.ensures) c.hand_on.ensures)
+    (c.decide.ensures ns (children ws a.node.at) c.look-below.ensures.asked c.named_arguments-arguments.ensures) c.hand_on.ensures)

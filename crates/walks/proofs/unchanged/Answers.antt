@@ -1,26 +1,32 @@
 -- `walks::unchanged` meets its contract. Assumes nothing.
-use mathlib.Core.Path.{sym}
+use mathlib.Core.Path.{◌≡◌, refl, ap, ◌∙◌}
+use mathlib.Core.List.{List}
+use Prim.Native.Nat.{ℕ}
 use native.Mathlib.Omega.{arith}
-use lib.Seq.{length-take-le}
-use Rattle.walks.proofs.Copying.{in_copied, copied-front}
+use borrow.Author.Rules.{rules}
+use denote.Ref.{MutBor}
+use lib.ListN.{length}
+use Rattle.forest.specs.Forest.{table}
+use Rattle.output.specs.Output.{emit_rows}
+use Rattle.walks.proofs.Copying.{copied-table}
 use Rattle.walks.proofs.Readying.{given-rows, no-room-copied, all-copied}
 use Rattle.walks.proofs.unchanged.Goals as goal
 
 pub returns-then-out_rows-rows : goal.returns-then-out_rows-rows
 returns-then-out_rows-rows c = no-room-copied _ _ _ _ c.args.table.now.accepted c.requires _ _ (omega arith)
 
-pub slice_bounds-copy_from_slice-end : goal.slice_bounds-copy_from_slice-end
-slice_bounds-copy_from_slice-end c = let g = given-rows _ _ _ _ c.args.table.now.accepted in omega (arith, g.bytes)
-
-pub slice_bounds-copy_from_slice-end-2 : goal.slice_bounds-copy_from_slice-end-2
-slice_bounds-copy_from_slice-end-2 c = let g = given-rows _ _ _ _ c.args.table.now.accepted in sym (length-take-le _ _ (omega (arith, g.bytes)))
-
-pub copy_from_slice-requires : goal.copy_from_slice-requires
-copy_from_slice-requires c = let g = given-rows _ _ _ _ c.args.table.now.accepted in length-take-le _ _ (omega (arith, g.bytes))
+pub copy-requires : goal.copy-requires
+copy-requires c =
+    let g = given-rows _ _ _ _ c.args.table.now.accepted in
+    let z = c.new-w.ensures.1 in
+    let l : length c.new-w.result.rows.now ≡ length c.args.out_rows.now = ap (λ (r : MutBor (List ℕ)). length r.now) c.new-w.ensures.0 in omega (arith, g.bytes)
 
 pub returns : goal.returns
 returns c =
     let g = given-rows _ _ _ _ c.args.table.now.accepted in
-    let bytes = in_copied c.args.table.now.rows.now _ c.copy_from_slice.ensures.after c.type_inv.out_rows in
-    all-copied _ _ _ _ c.args.table.now.accepted c.requires _ _ _ _
-    (copied-front _ _ _ g bytes (omega (arith, g.bytes)) (rw c.copy_from_slice.ensures.after)) (omega arith)
+    let z = c.new-w.ensures.1 in
+    let o : c.new-w.result.rows.now ≡ c.args.out_rows.now = ap (λ (r : MutBor (List ℕ)). r.now) c.new-w.ensures.0 in
+    let l : length c.new-w.result.rows.now ≡ length c.args.out_rows.now = ap length o in
+    let d = copied-table g c.type_inv.out_rows (search rules) c.copy.ensures.rows z (omega (arith, g.bytes)) in
+    let whole : c.finish.new.self.0 ≡ emit_rows c.args.out_rows.now 0 (table c.args.table.now.rows.now) = c.finish.ensures.1 ∙ d.wrote ∙ rw (z, o) refl in
+    all-copied _ _ _ _ c.args.table.now.accepted c.requires _ _ _ _ (record { next = omega (arith, c.finish.ensures.0, d.next); wrote = search rules }) (omega arith)

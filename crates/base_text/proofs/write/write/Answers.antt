@@ -18,4 +18,4 @@ pub returns : goal.returns
 returns c =
     let a = c.args in
     let size : length (a.base.now ++ (a.capitals.now ++ a.rest.now)) ≡ length a.base.now + length a.capitals.now + length a.rest.now = simp length-append (omega arith) in
-    written _ _ _ size _ c.if-out-c.false (rw (c.copy_from_slice.ensures.after, c.copy_from_slice-2.ensures.after, c.copy_from_slice-3.ensures.after) (three_pieces a.out.now a.base.now a.capitals.now a.rest.now))
+    written _ _ _ size _ c.if-out-c.false (rw (c.copy.ensures, c.copy-2.ensures, c.copy-3.ensures) (three_pieces a.out.now a.base.now a.capitals.now a.rest.now))

@@ -106,17 +106,14 @@ undressed-list-requires t c = let v = c.args.walk.now in (
       c.requires.first_value (ap op_of c.in-Drop.is) in let h1 = c.requires.rows_bound in omega arith,
 )
 
-pub undressed-invariant_of-opened : goal.undressed-invariant_of-opened
-unfolding op_of
-undressed-invariant_of-opened t c = record { low = (subst (λ (o : Becomes). OpLow c.args.walk.now.bindings.cap (op_of o)) c.in-Name.is c.requires.row_pre.low).1.1 }
-
 pub undressed-captured_identifier-requires : goal.undressed-captured_identifier-requires
 unfolding op_of
 undressed-captured_identifier-requires t c =
     let v = c.args.walk.now in
     let h0 = name-size v.rows.now v.names.pairs.now v.names.text.now v c.args.plan c.requires.row_pre.formed
     (sym c.in_sequence.ensures ∙ c.if-in_sequence.false) c.requires.first_value _ _ (ap op_of c.in-Name.is) in
-    let h1 = c.requires.rows_bound in omega arith
+    let h1 = c.requires.rows_bound in
+    let h2 = (subst (λ (o : Becomes). OpLow v.bindings.cap (op_of o)) c.in-Name.is c.requires.row_pre.low).1.1 in omega arith
 
 pub undressed-transform_call_expression_for_super-requires : goal.undressed-transform_call_expression_for_super-requires
 unfolding op_of
@@ -378,10 +375,6 @@ transform_call_expression_for_super-close-requires t c =
     let h3 = called_size_of c.args.inner c.args.usage c.args.frame c.args.property in
     (omega arith, omega arith)
 
-pub transform_call_expression_for_super-invariant_of-opened : goal.transform_call_expression_for_super-invariant_of-opened
-transform_call_expression_for_super-invariant_of-opened t c =
-    let v = c.args.inner.walk.now in record { low = subst (λ (f : ℕ). f < v.bindings.cap) (sym c.this_at.ensures.value) c.requires.frames_low.0 }
-
 pub transform_call_expression_for_super-get_this_identifier-requires : goal.transform_call_expression_for_super-get_this_identifier-requires
 transform_call_expression_for_super-get_this_identifier-requires t c =
     let h0 = c.requires.rows_bound in
@@ -389,6 +382,7 @@ transform_call_expression_for_super-get_this_identifier-requires t c =
     let h2 = c.transform_member_expression_for_super.ensures.rows.next in
     let h3 = called_size_of c.args.inner c.args.usage c.args.frame c.args.property in
     let h4 = c.close.ensures.next in
+    let h5 = subst (λ (f : ℕ). f < c.args.inner.walk.now.bindings.cap) (sym c.this_at.ensures.value) c.requires.frames_low.0 in
     omega arith
 
 pub transform_call_expression_for_super-returns-clause-rows : goal.transform_call_expression_for_super-returns-clause-rows

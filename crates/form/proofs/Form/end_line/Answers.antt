@@ -11,4 +11,5 @@ returns c =
       moved-on _ _ f.line f.rows (c.ne-goes_on.ensures ∙ ap not (is_faulty c.after-next.result)) (c.eq-is_row.ensures ∙ is_rows f.part) c.from.ensures c.from-2.ensures ∙ c.after-next.ensures.ends f.line,
       refl,
       omega (arith, byte_low c.ne-goes_on.result, c.from.ensures),
+      omega (arith, c.from.ensures),
     )

@@ -6,4 +6,4 @@ pub returns-in-Rows : goal.returns-in-Rows
 returns-in-Rows c = let e = c.closed-last.ensures in told_rows _ _ _ c.in-Rows.is e.0
 
 pub returns-in_default : goal.returns-in_default
-returns-in_default c = let e = c.closed-last.ensures in (told_line _ _ _ c.in_default.not-Rows e.0, c.closed-last.result.begun, e.1)
+returns-in_default c = let e = c.closed-last.ensures in (told_line _ _ _ c.in_default.not-Rows e.0, e.2, e.1)

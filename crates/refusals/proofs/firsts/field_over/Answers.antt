@@ -1,4 +1,4 @@
--- `refusals::firsts::first_field` meets its contract. Assumes nothing.
+-- `refusals::firsts::field_over` meets its contract. Assumes nothing.
 use mathlib.Core.Bool.{cond}
 use mathlib.Core.Path.{◌≡◌, ◌∙◌}
 use Prim.Native.Nat.{ℕ, ◌-◌, ◌*◌}
@@ -8,8 +8,8 @@ use Rattle.rows.proofs.Soundness.{words_long}
 use Rattle.names.specs.Words.{words, kind_at}
 use Rattle.refusals.specs.Hits.{hit}
 use Rattle.refusals.proofs.Values.{since_start, since-next, since_end, low-next, hit-high, seven_rows}
-use Rattle.refusals.proofs.firsts.first_field.Goals as goal
-use Rattle.refusals.proofs.firsts.first_field.Goals.{then-is_hit, else-is_hit, Joined-is_hit}
+use Rattle.refusals.proofs.firsts.field_over.Goals as goal
+use Rattle.refusals.proofs.firsts.field_over.Goals.{then-is_hit, else-is_hit, Joined-is_hit}
 
 pub loop-i-init : goal.loop-i-init
 loop-i-init c = since_start _ _ _ _ c.requires

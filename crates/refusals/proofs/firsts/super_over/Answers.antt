@@ -1,4 +1,4 @@
--- `refusals::firsts::first_super` meets its contract. Assumes nothing.
+-- `refusals::firsts::super_over` meets its contract. Assumes nothing.
 use mathlib.Core.Path.{refl, sym, subst, ◌∙◌}
 use Prim.Native.Nat.{ℕ, ◌≤◌}
 use native.Mathlib.Omega.{arith}
@@ -8,7 +8,7 @@ use Rattle.names.proofs.Seeking.{seek-start, seek-next, seek_found, seek-none}
 use Rattle.names.specs.Words.{words}
 use Rattle.forest.specs.Told.{first_then}
 use Rattle.refusals.proofs.Stands.{clear_told, told_from, bad-same, says, six_rows}
-use Rattle.refusals.proofs.firsts.first_super.Goals as goal
+use Rattle.refusals.proofs.firsts.super_over.Goals as goal
 
 pub loop-i-init : goal.loop-i-init
 loop-i-init c = (seek-start _ _ _, (refl, clear_told _ _ _ c.requires))

@@ -1,4 +1,4 @@
--- `refusals::firsts::first_super` meets its contract. Assumes nothing.
+-- `refusals::firsts::super_over` meets its contract. Assumes nothing.
 use mathlib.Core.Path.{◌≡◌}
 use Prim.Native.Nat.{ℕ}
 use lib.ListN.{length, get_or}
@@ -7,7 +7,7 @@ use Rattle.names.proofs.Seeking.{Seek}
 use Rattle.names.specs.Words.{words, kind_at}
 use Rattle.refusals.specs.Standing.{super_bad}
 use Rattle.refusals.proofs.Stands.{told_from, stand_of}
-use Rattle.refusals.proofs.firsts.first_super.Given as goal
+use Rattle.refusals.proofs.firsts.super_over.Given as goal
 
 abbrev pub invariant-loop-i : goal.invariant-loop-i
 invariant-loop-i l =
