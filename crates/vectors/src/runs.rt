@@ -21,7 +21,9 @@ pub enum Kind {
 
 impl Kind {
     // How many words are stored of an item.
-    fn words(self) -> usize {
+    fn words(self) -> usize
+        ensures { result ≤ 4 }
+    {
         match self {
             Kind::Row => 4,
             Kind::Record => 3,
@@ -109,6 +111,7 @@ fn put_runs(words: &mut Words<'_>, kind: Kind, out: &mut [u8]) -> Result<usize, 
     ensures len { IfOk result (λ n. n ≤ length out.old) }
     ensures words { IfOk result (λ _. length words.new.rest.now + 1 ≤ length words.old.rest.now) }
     ensures fewer { length words.new.rest.now ≤ length words.old.rest.now - 1 }
+    ensures most { length words.old.rest.now ≤ length words.new.rest.now + 34359738368 }
 {
     let count = words.next()?;
     let mut len = 0;
@@ -127,6 +130,7 @@ pub fn runs<'a>(words: &mut Words<'_>, kind: Kind, out: &'a mut [u8]) -> Result<
     ensures len { IfOk result (λ s. length s.now ≤ length out.old) }
     ensures words { IfOk result (λ _. length words.new.rest.now + 1 ≤ length words.old.rest.now) }
     ensures fewer { length words.new.rest.now ≤ length words.old.rest.now - 1 }
+    ensures most { length words.old.rest.now ≤ length words.new.rest.now + 34359738368 }
 {
     let len = put_runs(words, kind, out)?;
     Ok(&out[..len])
@@ -141,6 +145,7 @@ fn part_with_zeros<'a>(
     ensures len { IfOk result (λ s. length s.now ≤ length out.old) }
     ensures words { IfOk result (λ _. length words.new.rest.now + 2 ≤ length words.old.rest.now) }
     ensures fewer { length words.new.rest.now ≤ length words.old.rest.now - 1 }
+    ensures most { length words.old.rest.now ≤ length words.new.rest.now + 34359738369 }
 {
     let len = put_runs(words, kind, out)?;
     let zeros = words.next()? as usize;
@@ -176,6 +181,7 @@ impl NameRoom {
     pub fn build(&mut self, words: &mut Words<'_>) -> Result<Names<'_>, Fault>
         ensures words { IfOk result (λ _. length words.new.rest.now + 3 ≤ length words.old.rest.now) }
         ensures fewer { length words.new.rest.now ≤ length words.old.rest.now - 1 }
+        ensures most { length words.old.rest.now ≤ length words.new.rest.now + 68719476737 }
     {
         let NameRoom { pairs, text } = self;
         let pairs = part_with_zeros(words, Kind::Pair, pairs)?;
@@ -212,6 +218,7 @@ impl<const N: usize> Room<N> {
     pub fn build(&mut self, words: &mut Words<'_>, kind: Kind) -> Result<Built<'_>, Fault>
         ensures words { IfOk result (λ _. length words.new.rest.now + 5 ≤ length words.old.rest.now) }
         ensures fewer { length words.new.rest.now ≤ length words.old.rest.now - 1 }
+        ensures most { length words.old.rest.now ≤ length words.new.rest.now + 103079215106 }
     {
         let Room { first, names } = self;
         let first = part_with_zeros(words, kind, first)?;

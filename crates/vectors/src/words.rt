@@ -24,6 +24,7 @@ impl<'a> Words<'a> {
         ensures len { IfOk result (λ s. length s.now ≡ n) }
         ensures parts { IfOk result (λ s. self.old.rest.now ≡ s.now ++ self.new.rest.now) }
         ensures fewer { length self.new.rest.now ≤ length self.old.rest.now }
+        ensures most { length self.old.rest.now ≤ length self.new.rest.now + n }
     {
         let (first, rest) = self.rest.split_at_checked(n).ok_or(Fault::Case)?;
         self.rest = rest;
