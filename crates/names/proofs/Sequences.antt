@@ -1,13 +1,17 @@
 -- The rows of the table that a first byte leaves. Assumes nothing.
-use mathlib.Core.Path.{◌≡◌, refl, sym}
-use mathlib.Core.Bool.{Bool, true, false, cond, and-false}
+use mathlib.Core.Path.{◌≡◌, refl, subst, ap, ◌∙◌}
+use mathlib.Core.Logic.{⊎_elim}
+use mathlib.Core.Bool.{Bool, false, cond, and-false}
 use mathlib.Core.List.{List}
-use Prim.Native.Nat.{ℕ, zero, suc, ◌+◌, ◌≤◌, ◌<◌}
+use Prim.Native.Nat.{ℕ, zero, suc, ◌+◌, ◌-◌, ◌≤◌, ◌<◌}
 use native.Mathlib.Omega.{arith}
 use borrow.Author.Tests.{le-leb, lt-leb}
-use lib.Dec.{leb, ltb}
-use lib.ListN.{length, get_or}
-use Rattle.names.specs.Utf8.{two, three, four, seq_of, utf8_from, utf8}
+use lib.Dec.{leb}
+use lib.ListN.{length, get_or, take, drop}
+use lib.Seq.{get_or-take, get_or-drop}
+use Rattle.names.proofs.Bools.{lt_or_ge}
+use Rattle.names.specs.Utf8.{two, three, four, seq_of}
+use Rattle.names.proofs.Reading.{Reading, read_start, read_next}
 
 module _ (a b c d : ℕ) where
   below_three : a < 0xE0 → three a b c ≡ false
@@ -49,15 +53,20 @@ module _ (a b c d : ℕ) where
   four_by l t q = rw (lt-leb a 0x7F (omega arith), above_two (omega arith), above_three l, ← q) refl
 
 -- bytes of ASCII are a sequence each
-ascii_from : (s : List ℕ) → ((i : ℕ) → get_or s i 0 < 128) → (f i : ℕ) → utf8_from f s i ≡ true
-unfolding utf8_from
-ascii_from s h zero i = refl
-ascii_from s h (suc f) i = either_way (ltb i (length s)) _ (rw (← one_by (get_or s i 0) (get_or s (i + 1) 0) (get_or s (i + 2) 0) (get_or s (i + 3) 0) (let k = h i in omega arith), ascii_from s h f (i + 1)) refl)
-  where
-    either_way : (t x : Bool) → x ≡ true → cond t x true ≡ true
-    either_way true x q = q
-    either_way false x q = refl
+pub read_ascii : (s : List ℕ) (n : ℕ) → n ≤ length s → ((j : ℕ) → j < n → get_or s j 0 < 128) → Reading s n
+read_ascii s zero h a = read_start s
+read_ascii s (suc n) h a =
+    let low : get_or s n 0 < 128 = a n (omega arith) in
+    subst (Reading s) (omega arith)
+    (read_next s n 1 (read_ascii s n (omega arith) (λ j l. a j (omega arith))) (omega arith) (one_by (get_or s n 0) (get_or s (n + 1) 0) (get_or s (n + 2) 0) (get_or s (n + 3) 0) (omega arith)) (λ q. omega arith))
 
-pub ascii : (s : List ℕ) → ((i : ℕ) → get_or s i 0 < 128) → true ≡ utf8 s
-unfolding utf8
-ascii s h = sym (ascii_from s h (length s) 0)
+-- a part of ASCII behind bytes of ASCII
+pub ascii_on : (s : List ℕ) (i n : ℕ) → ((j : ℕ) → j < i → get_or s j 0 < 128) → ((k : ℕ) → get_or (take n (drop i s)) k 0 < 128) → (j : ℕ) → j < i + n → get_or s j 0 < 128
+ascii_on s i n a b j l =
+    ⊎_elim (a j)
+    (λ h.
+    let e : i + (j - i) ≡ j = omega arith in
+    let q : get_or (take n (drop i s)) (j - i) 0 ≡ get_or s j 0 =
+    get_or-take n (drop i s) (j - i) 0 (omega arith) ∙ get_or-drop i s (j - i) 0 ∙ ap (λ (m : ℕ). get_or s m 0) e in
+    subst (λ (v : ℕ). v < 128) q (b (j - i)))
+    (lt_or_ge j i)

@@ -63,12 +63,30 @@ pub fn seq_at(s: &[u8], i: usize) -> usize
     if four(a, b, c, byte(s, i + 3)) { 4 } else { 0 }
 }
 
-// The same as `is_utf8`, sequence by sequence.
-// A loop by hand: a sequence is as long as its bytes say, so that there is no list of them to walk over: no plainer.
-fn are_sequences(s: &[u8]) -> bool
-    ensures { result ≡ utf8 s.now }
+// A word, in bytes.
+const WORD: usize = 8;
+
+// How many of these bytes, word by word from the front, are ASCII.
+fn ascii_words(s: &[u8]) -> usize
+    ensures { (result ≤ length s.now) × ((j : ℕ) → j < result → get_or s.now j 0 < 128) }
 {
     let mut i: usize = 0;
+    while WORD <= s.len() - i {
+        if !s[i..i + WORD].is_ascii() {
+            return i;
+        }
+        i += WORD;
+    }
+    i
+}
+
+// Whether these bytes are well-formed sequences, one after the other: words of ASCII, and from the first other word on sequence by
+// sequence, since the library's own reader of UTF-8 takes more than twice as long where a few ASCII letters stand between others.
+// A loop by hand: a sequence is as long as its bytes say, so that there is no list of them to walk over: no plainer.
+pub fn is_utf8(s: &[u8]) -> bool
+    ensures { result ≡ utf8 s.now }
+{
+    let mut i = ascii_words(s);
     while i < s.len() {
         let w = seq_at(s, i);
         if w == 0 {
@@ -77,28 +95,4 @@ fn are_sequences(s: &[u8]) -> bool
         i += w;
     }
     true
-}
-
-// The high bit of each byte of a word.
-const HIGH_BITS: u64 = 0x8080_8080_8080_8080;
-
-// Whether these bytes begin with eight of ASCII, so that it is worth to ask for more.
-fn begins_ascii(s: &[u8]) -> bool {
-    match s.first_chunk::<8>() {
-        Some(word) => u64::from_le_bytes(*word) & HIGH_BITS == 0,
-        None => false,
-    }
-}
-
-// Whether these bytes are well-formed sequences, one after the other: ASCII, which the library reads by words, or else sequence by
-// sequence, since the library's own reader of UTF-8 takes up to twice as long where a few ASCII letters stand between others.
-pub fn is_utf8(s: &[u8]) -> bool
-    ensures { result ≡ utf8 s.now }
-{
-    if begins_ascii(s) {
-        if s.is_ascii() {
-            return true;
-        }
-    }
-    are_sequences(s)
 }

@@ -1,6 +1,16 @@
 -- `names::utf8::is_utf8` meets its contract. Assumes nothing.
-use Rattle.names.proofs.Sequences.{ascii}
+use Rattle.names.proofs.Reading.{read_next, read_bad, read_end}
+use Rattle.names.proofs.Sequences.{read_ascii}
 use Rattle.names.proofs.utf8.is_utf8.Goals as goal
 
-pub returns-then-is_ascii : goal.returns-then-is_ascii
-returns-then-is_ascii c = ascii _ c.if-is_ascii.ensures.cases
+pub loop-i-init : goal.loop-i-init
+loop-i-init c = read_ascii _ _ c.ascii_words-i.ensures.0 c.ascii_words-i.ensures.1
+
+pub returns-then-w-eq0 : goal.returns-then-w-eq0
+returns-then-w-eq0 c = read_bad _ _ _ c.loop-i.invariant c.loop-i-test.true c.seq_at-w.ensures.0 c.if-w-eq0.true
+
+pub loop-i-preserved : goal.loop-i-preserved
+loop-i-preserved c = read_next _ _ _ c.loop-i.invariant c.loop-i-test.true c.seq_at-w.ensures.0 c.if-w-eq0.false
+
+pub returns : goal.returns
+returns c = read_end _ _ c.loop-i.invariant c.loop-i-test.false
