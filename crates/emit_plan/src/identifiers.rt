@@ -18,7 +18,7 @@ use spelling::Names;
 use uses::{Access, Capture};
 
 // A captured Ident: of `this` or of `arguments`.
-// The bare array, here and below, and no `Frame`: what is read is one word, of an array too that no `Maker` has made.
+// The bare array, here and in `get_this_identifier`, and no `Frame`: what is read is one word, of an array too that no `Maker` has made.
 pub fn captured_identifier(
     made: &[u32],
     cap: usize,

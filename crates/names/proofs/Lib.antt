@@ -4,7 +4,9 @@ pub mod Zeros
 pub mod Cells
 pub mod Storing
 pub mod Seeking
+pub mod AsciiWords
 pub mod Sequences
+pub mod Behind
 pub mod Reading
 pub mod Texts
 pub mod GoodNames

@@ -23,13 +23,10 @@ module _ (s : List ℕ) where
   next-at i zero w r q h e z = absurd (omega (arith, r.room))
   next-at i (suc f) w r q h e z =
       subst (λ (x : ℕ). Reading (i + x)) (sym e)
-      (record { fuel = f; room = omega (arith, r.room, z'); same = r.same ∙ ap (λ (x : ℕ). utf8_from x s i) q ∙ rw (lt-ltb i (length s) h, ne_eqb (seq_at s i) 0 z'') })
+      (record { fuel = f; room = omega (arith, r.room, z'); same = r.same ∙ ap (λ (x : ℕ). utf8_from x s i) q ∙ rw (lt-ltb i (length s) h, ne_eqb (seq_at s i) 0 z') })
     where
-      z'' : seq_at s i ≡ 0 → ⊥
-      z'' y = z (e ∙ y)
-
       z' : seq_at s i ≡ 0 → ⊥
-      z' = z''
+      z' y = z (e ∙ y)
 
   pub read_next : (i w : ℕ) → Reading i → i < length s → w ≡ seq_at s i → (w ≡ 0 → ⊥) → Reading (i + w)
   read_next i w r = next-at i r.fuel w r refl

@@ -1,17 +1,11 @@
 -- The rows of the table that a first byte leaves. Assumes nothing.
-use mathlib.Core.Path.{◌≡◌, refl, subst, ap, ◌∙◌}
-use mathlib.Core.Logic.{⊎_elim}
+use mathlib.Core.Path.{◌≡◌, refl}
 use mathlib.Core.Bool.{Bool, false, cond, and-false}
-use mathlib.Core.List.{List}
-use Prim.Native.Nat.{ℕ, zero, suc, ◌+◌, ◌-◌, ◌≤◌, ◌<◌}
+use Prim.Native.Nat.{ℕ, ◌≤◌, ◌<◌}
 use native.Mathlib.Omega.{arith}
 use borrow.Author.Tests.{le-leb, lt-leb}
 use lib.Dec.{leb}
-use lib.ListN.{length, get_or, take, drop}
-use lib.Seq.{get_or-take, get_or-drop}
-use Rattle.names.proofs.Bools.{lt_or_ge}
 use Rattle.names.specs.Utf8.{two, three, four, seq_of}
-use Rattle.names.proofs.Reading.{Reading, read_start, read_next}
 
 module _ (a b c d : ℕ) where
   below_three : a < 0xE0 → three a b c ≡ false
@@ -51,22 +45,3 @@ module _ (a b c d : ℕ) where
   pub four_by : 0xEF < a → (t : Bool) → t ≡ four a b c d → cond t 4 0 ≡ seq_of a b c d
   unfolding seq_of
   four_by l t q = rw (lt-leb a 0x7F (omega arith), above_two (omega arith), above_three l, ← q) refl
-
--- bytes of ASCII are a sequence each
-pub read_ascii : (s : List ℕ) (n : ℕ) → n ≤ length s → ((j : ℕ) → j < n → get_or s j 0 < 128) → Reading s n
-read_ascii s zero h a = read_start s
-read_ascii s (suc n) h a =
-    let low : get_or s n 0 < 128 = a n (omega arith) in
-    subst (Reading s) (omega arith)
-    (read_next s n 1 (read_ascii s n (omega arith) (λ j l. a j (omega arith))) (omega arith) (one_by (get_or s n 0) (get_or s (n + 1) 0) (get_or s (n + 2) 0) (get_or s (n + 3) 0) (omega arith)) (λ q. omega arith))
-
--- a part of ASCII behind bytes of ASCII
-pub ascii_on : (s : List ℕ) (i n : ℕ) → ((j : ℕ) → j < i → get_or s j 0 < 128) → ((k : ℕ) → get_or (take n (drop i s)) k 0 < 128) → (j : ℕ) → j < i + n → get_or s j 0 < 128
-ascii_on s i n a b j l =
-    ⊎_elim (a j)
-    (λ h.
-    let e : i + (j - i) ≡ j = omega arith in
-    let q : get_or (take n (drop i s)) (j - i) 0 ≡ get_or s j 0 =
-    get_or-take n (drop i s) (j - i) 0 (omega arith) ∙ get_or-drop i s (j - i) 0 ∙ ap (λ (m : ℕ). get_or s m 0) e in
-    subst (λ (v : ℕ). v < 128) q (b (j - i)))
-    (lt_or_ge j i)

@@ -41,7 +41,7 @@ state_number state.Heritage = heritage
 state_number state.Members = members
 state_number (state.Unlisted above) = 7 + above
 
--- what a number says: a state of the list, or none
+-- a number as a state: itself where it is one of the list, and 7 for all above
 abbrev pub stated : ℕ → ℕ
 stated n = cond (ltb n 7) n 7
 

@@ -1,7 +1,9 @@
 -- `names::utf8::ascii_words` meets its contract. Assumes nothing.
 use native.Mathlib.Omega.{arith}
-use Rattle.names.proofs.Sequences.{ascii_on}
+use Rattle.names.proofs.AsciiWords.{wide, ascii_on}
 use Rattle.names.proofs.utf8.ascii_words.Goals as goal
 
-pub loop-i-preserved : goal.loop-i-preserved
-loop-i-preserved c = (omega (arith, c.loop-i-test.true), λ j l. ascii_on _ _ _ c.loop-i.invariant.1 c.if-not-is_ascii.ensures.cases j (omega arith))
+pub loop-word-preserved : goal.loop-word-preserved
+loop-word-preserved c =
+    let chunk = c.in-Some.ensures.cases in
+    (omega (arith, wide _ c.type_inv.s c.loop-word.i _ _ chunk), ascii_on _ c.type_inv.s c.loop-word.i _ _ chunk _ c.from_le_bytes.ensures c.if-from_le_bytes-ne0.false c.loop-word.invariant.1)

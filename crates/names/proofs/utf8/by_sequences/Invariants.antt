@@ -1,8 +1,8 @@
--- `names::utf8::is_utf8` meets its contract. Assumes nothing.
+-- `names::utf8::by_sequences` meets its contract. Assumes nothing.
 use Prim.Native.Nat.{◌-◌}
 use lib.ListN.{length}
 use Rattle.names.proofs.Reading.{Reading}
-use Rattle.names.proofs.utf8.is_utf8.Given as goal
+use Rattle.names.proofs.utf8.by_sequences.Given as goal
 
 abbrev pub invariant-loop-i : goal.invariant-loop-i
 invariant-loop-i l = Reading l.s l.i
