@@ -20,7 +20,7 @@ use Rattle.form.specs.contracts.Part.{the_type}
 use denote.Enum.Bare.{sameb}
 use mir.Val.{bool_byte}
 use Rattle.form.specs.declared.Form.{Form}
-use Rattle.form.specs.Form.{Stand, Stand.stand, spelled, wanted, ends, told, Point, step, scan, close, part_number, moved, faulty_unless, stand_of, point_of}
+use Rattle.form.specs.Form.{Stand, Stand.stand, spelled, wanted, ends, told, Point, step, scan, close, settled, part_number, moved, faulty_unless, stand_of, point_of}
 
 -- what comes after a line of each part
 module _ (l : List ℕ) (n : ℕ) where
@@ -159,3 +159,13 @@ told_line p k n q h = sym (sym (ap told h) ∙ go p q)
     go NameHeader q = refl
     go Names q = refl
     go Rows q = absurd (q refl)
+
+-- what is no faulty line and no name is settled by its length
+pub settled_else : (p : Part) (c : ℕ) → (p ≡ Faulty → ⊥) → (p ≡ Names → ⊥) → leb 44 c ≡ settled (part_number p) c
+unfolding settled
+settled_else Faulty c q r = absurd (q refl)
+settled_else SwitchHeader c q r = refl
+settled_else Switches c q r = refl
+settled_else NameHeader c q r = refl
+settled_else Names c q r = absurd (r refl)
+settled_else Rows c q r = refl

@@ -2,7 +2,7 @@
 use mathlib.Core.Path.{◌≡◌, refl, ap, ◌∙◌}
 use mathlib.Core.Bool.{Bool, true, false, cond, false≢true}
 use mathlib.Core.List.{List, [], ◌∷◌}
-use Prim.Native.Nat.{ℕ, suc, ◌+◌, ◌≤◌}
+use Prim.Native.Nat.{ℕ, suc, ◌+◌, ◌≤◌, ◌<◌}
 use native.Mathlib.Omega.{arith}
 use lib.ListN.{length, take}
 use lib.Seq.{length-take-le}
@@ -15,7 +15,7 @@ use Rattle.fields.specs.declared.Row.{Row}
 use Rattle.std.proofs.Common.{Option, None, Some, Ok, Err}
 use Rattle.parser.specs.Parse.{Read.faulty, Lines, wrong, is_row, rows_from, has_rows, names_in, after_names, with_rows, switches_in, words_from, from_fourth, from_third, from_second, from_first}
 use Rattle.form.specs.declared.Form.{Form}
-use Rattle.form.specs.Form.{Stand.stand, spelled, wanted, ends, over, told, fault_in, kept, step, scan, start, close, settled, part_number, point_of}
+use Rattle.form.specs.Form.{Stand, Stand.stand, Point, spelled, wanted, ends, over, told, fault_in, kept, step, scan, start, close, settled, part_number, point_of}
 use Rattle.form.proofs.Short.{long-ends}
 use Rattle.form.proofs.Scanning.{text_lines}
 
@@ -144,3 +144,40 @@ settled-stays p k n count front s low room h = go (eqb p 0) refl (eqb p 4) refl 
 -- the same of a `Form`
 pub form-stays : (f : Form) (s : List ℕ) → settled (part_number f.part) f.count ≡ true → told (close (scan (point_of f) s)) ≡ f.line
 form-stays f s h = settled-stays (part_number f.part) f.line f.rows f.count f.front s f.low (omega (arith, f.room)) h
+
+-- the line that comes next
+abbrev line_of : Stand → ℕ
+line_of (stand p k n) = k
+
+one-of : (k : ℕ) (b : Bool) (x y : Stand) → k ≤ line_of x → k ≤ line_of y → k ≤ line_of (cond b x y)
+one-of k true x y h g = h
+one-of k false x y h g = g
+
+-- is no line before this one, whatever the line has
+ends-on : (x : Stand) (l : List ℕ) → line_of x ≤ line_of (ends x l)
+unfolding ends
+ends-on (stand p k n) l =
+    let here : k ≤ k = omega arith in
+    let next : k ≤ k + 1 = omega arith in
+    one-of k (eqb p 0) _ _ here
+    (one-of k (eqb p 5) _ _ (one-of k (spelled (row_of (fields l))) _ _ (one-of k (leb 1024 n) _ _ here next) here)
+    (one-of k (wanted p l) _ _ next (one-of k (eqb p 4) _ _ next here)))
+
+-- nor whatever is read
+scan-on : (s : List ℕ) (x : Point) → line_of x.at ≤ line_of (scan x s).at
+unfolding scan step
+scan-on [] x = omega arith
+scan-on (c ∷ s) x = go (eqb c 10) (scan-on s)
+  where
+    go : (b : Bool) → ((x : Point) → line_of x.at ≤ line_of (scan x s).at)
+        → line_of x.at ≤ line_of (scan (cond b (record { at = ends x.at x.cur; cur = [] }) (record { at = x.at; cur = kept c x.cur })) s).at
+    go true ih =
+        let h = ends-on x.at x.cur in
+        let g = ih (record { at = ends x.at x.cur; cur = [] }) in omega arith
+    go false ih = ih (record { at = x.at; cur = kept c x.cur })
+
+-- so a `Form` that has read a text is at a line of it, "from 1"
+pub begun : (f : Form) (s : List ℕ) → point_of f ≡ scan start s → 0 < f.line
+begun f s h =
+    let e : f.line ≡ line_of (scan start s).at = ap (λ (x : Point). line_of x.at) h in
+    let g : 1 ≤ line_of (scan start s).at = scan-on s start in omega arith
