@@ -10,13 +10,11 @@ use lib.Seq.{sets-eq}
 use Rattle.names.specs.Bytes.{le32, bytes_of}
 use Rattle.names.specs.Words.{words, rows_in}
 use Rattle.forest.specs.Forest.{size, flat, table}
-use Rattle.forest.proofs.Accepting.{length-flat}
-use Rattle.rows.proofs.Soundness.{words_long}
 use Rattle.output.specs.declared.writer.Writer.{Writer}
 use Rattle.output.specs.Output.{Done, Recorded, Copied}
 use Rattle.output.specs.Held.{copied, Puts}
 use Rattle.output.proofs.Held.{put_copied}
-use Rattle.output.proofs.Placing.{emit-start}
+use Rattle.output.proofs.Placing.{rows_bytes, emit-start}
 use Rattle.output.proofs.Loops.{RecordsLeft, all_records_left, record_turn, no_records_left}
 use Rattle.bindings.specs.Store.{use_at, property_at, frame_at, binds_from, binds}
 use Rattle.refusals.specs.Given.{GivenRows}
@@ -52,14 +50,18 @@ in_front (x ∷ xs) ys h (suc i) = in_front xs ys (λ j. h (suc j)) i
 pub in_copied : (xs ys : List ℕ) {new : List ℕ} → new ≡ xs → ((i : ℕ) → Fits w8 (get_or (new ++ ys) i 0)) → (i : ℕ) → get_or xs i 0 < 256
 in_copied xs ys {new} e h = in_front xs ys (λ (i : ℕ). let b : get_or (new ++ ys) i 0 < 256 = omega (arith, (h i).fits) in rw (← e) b)
 
+-- the bytes of a table's rows are its own
+table_bytes : (rows : List ℕ) → GivenRows rows (rows_in rows) → ((i : ℕ) → get_or rows i 0 < 256) → bytes_of (flat 0 (table rows)) ≡ rows
+table_bytes rows g h = ap bytes_of g.same ∙ bytes_words rows (4 * rows_in rows) (omega (arith, g.bytes)) h
+
 -- a table's own bytes at the front are its rows
 pub copied-front : (rows out out' : List ℕ) → GivenRows rows (rows_in rows) → ((i : ℕ) → get_or rows i 0 < 256) → length rows ≤ length out → out' ≡ rows ++ drop (length rows) out → Done out 0 (table rows) (rows_in rows) out'
 copied-front rows out out' g h l q =
-    let s : size (table rows) ≡ rows_in rows = omega (arith, length-flat 0 (table rows), ap length g.same, words_long rows (4 * rows_in rows) (omega (arith, g.bytes))) in
-    let d : 16 * size (table rows) ≡ length rows = omega (arith, s, g.bytes) in
+    let t = table_bytes rows g h in
+    let d : 16 * size (table rows) ≡ length rows = sym (rows_bytes (table rows) 0) ∙ ap length t in
     record {
-      next = omega arith;
-      wrote = q ∙ sym (emit-start (table rows) out (omega (arith, d)) ∙ rw (d, g.same, bytes_words rows (4 * rows_in rows) (omega (arith, g.bytes)) h));
+      next = omega (arith, d, g.bytes);
+      wrote = q ∙ sym (emit-start (table rows) out (omega (arith, d)) ∙ rw (d, t));
     }
 
 -- a table's own bytes, copied to the front of a writer's rows, are its rows
@@ -68,8 +70,7 @@ pub copied-table : {w w' : Writer} {rows out : List ℕ} → GivenRows rows (row
 copied-table {w} {w'} {rows} {out} g h q p z l =
     let e : out ≡ rows ++ drop (length rows) w.rows.now = q ∙ ap (λ (v : Writer). v.rows.now) p ∙ rw z (sets-eq rows w.rows.now 0 (omega arith) ∙ ap (λ (k : ℕ). rows ++ drop k w.rows.now) (omega arith)) in
     let b = in_copied rows (drop (length rows) w.rows.now) refl (subst (λ (o : List ℕ). (i : ℕ) → Fits w8 (get_or o i 0)) e h) in
-    let same : bytes_of (flat 0 (table rows)) ≡ rows = ap bytes_of g.same ∙ bytes_words rows (4 * rows_in rows) (omega (arith, g.bytes)) b in
-    put_copied (table rows) p (rw z (sym same)) (omega arith)
+    put_copied (table rows) p (rw z (sym (table_bytes rows g b))) (omega arith)
 
 -- The records.
 module _ (M : List ℕ) (cap count : ℕ) (before : List ℕ) where
